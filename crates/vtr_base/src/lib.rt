@@ -1,0 +1,13 @@
+//! What every crate of the project stands on: texts and places of files, whole numbers as
+//! decimal text, and the two traits through which the program meets the outside.
+#![tactic(auto)]
+
+mod decimal;
+mod outside;
+mod place;
+mod text;
+
+pub use decimal::{put_number, read_number};
+pub use outside::{Shelf, ShelfError, Sink, SinkFailed};
+pub use place::Place;
+pub use text::Text;
