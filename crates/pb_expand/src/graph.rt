@@ -1,0 +1,4 @@
+/// (to be written)
+pub struct PbGraph {
+    block: u32,
+}
