@@ -1,0 +1,55 @@
+-- A programming of one block type: a finite map from its sites to choices. A site is the mode of an
+-- instance, or a pin in one mode; a site without a choice is off.
+use Rattle.std.specs.Prelude.{◌≡◌, ◌<◌, ℕ, List, Option, Some, None, length, slice_get}
+use Rattle.std.specs.Ordering.{nat_cmp, ordering_then}
+use Rattle.std.specs.declared.cmp.Ordering.{Ordering}
+use Rattle.std.specs.FinMap as map
+use Rattle.arch_types.specs.declared.block.PbType.{PbType}
+use Rattle.arch_types.specs.Tree.{modes_of}
+use Rattle.arch_types.specs.Address.{Address, at}
+use Rattle.pb_expand.specs.declared.number.Edge.{Edge}
+use Rattle.pb_expand.specs.Graph.{Graph}
+
+-- a pin in one mode: by the pin, then by the mode
+abbrev pub site_cmp : ℕ × ℕ → ℕ × ℕ → Ordering
+site_cmp x y = ordering_then (nat_cmp x.0 y.0) (nat_cmp x.1 y.1)
+
+-- the choices by number: of an instance its mode, and of a pin in a mode the edge that it takes
+pub record Choices : Type 0 where
+  pub modes : map.FinMap nat_cmp ℕ
+  pub picks : map.FinMap site_cmp ℕ
+
+abbrev pub no_choices : Choices
+no_choices = record { modes = map.empty; picks = map.empty }
+
+abbrev pub mode_of : Choices → ℕ → Option ℕ
+mode_of c pb = map.get c.modes pb
+
+abbrev pub pick_of : Choices → ℕ → ℕ → Option ℕ
+pick_of c pin mode = map.get c.picks (pin, mode)
+
+abbrev pub with_mode : Choices → ℕ → ℕ → Choices
+with_mode c pb mode = record { modes = map.insert c.modes pb mode; picks = c.picks }
+
+abbrev pub with_pick : Choices → ℕ → ℕ → ℕ → Choices
+with_pick c pin mode edge = record { modes = c.modes; picks = map.insert c.picks (pin, mode) edge }
+
+-- the choice names what is there: a mode of the instance
+pub record IsModeOf (g : Graph) (pb mode : ℕ) : Type 0 where
+  pub address : Address
+  pub is_instance : slice_get g.instances pb ≡ Some address
+  pub block : PbType
+  pub is_block : at g.root address ≡ Some block
+  pub inside : mode < length (modes_of block.kind)
+
+-- the choice names what is there: an edge into the pin in that mode
+pub record IsEdgeInto (g : Graph) (pin mode number : ℕ) : Type 0 where
+  pub edge : Edge
+  pub there : slice_get g.edges number ≡ Some edge
+  pub ends : edge.dst.0 ≡ pin
+  pub in_mode : edge.mode ≡ mode
+
+-- the choices are a programming of the graph: each choice is one of its site
+pub record IsProgOf (g : Graph) (c : Choices) : Type 0 where
+  pub modes : (pb mode : ℕ) → mode_of c pb ≡ Some mode → IsModeOf g pb mode
+  pub picks : (pin mode number : ℕ) → pick_of c pin mode ≡ Some number → IsEdgeInto g pin mode number

@@ -1,0 +1,6 @@
+//! Programmings of one block type: which mode each instance is set to, which edge each pin takes,
+//! and where the chosen edges lead back to.
+#![tactic(auto)]
+
+mod lines;
+pub use lines::next_line;
