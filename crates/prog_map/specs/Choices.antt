@@ -1,6 +1,7 @@
 -- A programming of one block type: a finite map from its sites to choices. A site is the mode of an
 -- instance, or a pin in one mode; a site without a choice is off.
-use Rattle.std.specs.Prelude.{◌≡◌, ◌<◌, ℕ, List, Option, Some, None, length, slice_get}
+use Rattle.std.specs.Prelude.{◌≡◌, ◌<◌, ℕ, List, Option, Some, None, length, slice_get, refl}
+use Rattle.std.specs.Coded.{Coded, code_by, coded×, coded_ℕ}
 use Rattle.std.specs.Ordering.{nat_cmp, ordering_then}
 use Rattle.std.specs.declared.cmp.Ordering.{Ordering}
 use Rattle.std.specs.FinMap as map
@@ -18,6 +19,16 @@ site_cmp x y = ordering_then (nat_cmp x.0 y.0) (nat_cmp x.1 y.1)
 pub record Choices : Type 0 where
   pub modes : map.FinMap nat_cmp ℕ
   pub picks : map.FinMap site_cmp ℕ
+
+abbrev pub choices_at : map.FinMap nat_cmp ℕ → map.FinMap site_cmp ℕ → Choices
+choices_at modes picks = record { modes = modes; picks = picks }
+
+-- choices are stored as the pair of the two maps
+abbrev pub choices_code : Coded Choices
+choices_code =
+    code_by (map.FinMap nat_cmp ℕ × map.FinMap site_cmp ℕ)
+      (coded× (map.code coded_ℕ coded_ℕ) (map.code (coded× coded_ℕ coded_ℕ) coded_ℕ))
+      (λ c. (c.modes, c.picks)) (λ p. record { modes = p.0; picks = p.1 }) (λ _. refl)
 
 abbrev pub no_choices : Choices
 no_choices = record { modes = map.empty; picks = map.empty }

@@ -3,4 +3,7 @@
 #![tactic(auto)]
 
 mod lines;
+mod prog;
+
 pub use lines::next_line;
+pub use prog::SiteMap;
