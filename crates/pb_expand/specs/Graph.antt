@@ -21,9 +21,9 @@ use Rattle.pb_expand.specs.declared.number.PbKind.{PbKind}
 use Rattle.pb_expand.specs.declared.number.PbKind.TheVariants as kinds
 
 pub record Graph : Type 0 where
-  pub block : ℕ                     -- the number of the block type
-  pub root : PbType                 -- its tree
-  pub instances : List Address      -- the instance of number n stands at place n
+  pub block : ℕ  -- the number of the block type
+  pub root : PbType  -- its tree
+  pub instances : List Address  -- the instance of number n stands at place n
   pub pins : List PinAt
   pub edges : List Edge
 
@@ -68,13 +68,13 @@ pins_of root = pins_from root 0 (instances_of root)
 -- what a pb_type is
 abbrev pub kind_of : Kind → PbKind
 kind_of k = elim (out-Kind k) [
-    InPad ↦ kinds.Leaf atom.InPad
+  | InPad ↦ kinds.Leaf atom.InPad
   | OutPad ↦ kinds.Leaf atom.OutPad
   | Lut ↦ kinds.Leaf atom.Lut
   | Latch ↦ kinds.Leaf atom.Latch
   | Cell model ↦ kinds.Leaf (atom.Cell model)
   | Modes modes ↦ kinds.Modes (length modes)
-  ]
+]
 
 -- the numbers of the edges into a pin in one mode, in the order of the edges, counted from n on
 abbrev pub into_from : ℕ → List Edge → ℕ → ℕ → List EdgeIx
@@ -86,6 +86,10 @@ into_from n (e ∷ es) pin mode =
 abbrev pub step_from : ℕ → ℕ → ℕ → ℕ → Step
 step_from parent mode child instance =
     record { parent = pb_ix parent; mode = mode; child = child; instance = instance }
+
+-- a step, without the instance that it leaves
+abbrev pub hop_of : Step → Hop
+hop_of s = record { mode = s.mode; child = s.child; instance = s.instance }
 
 -- the instance of number n hangs on its parent by this step
 pub record LeadsTo (instances : List Address) (s : Step) (n : ℕ) : Type 0 where
