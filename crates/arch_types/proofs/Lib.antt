@@ -1,1 +1,3 @@
 pub mod TreeRows
+pub mod Once
+pub mod Preorder
