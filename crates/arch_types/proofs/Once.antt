@@ -1,5 +1,5 @@
 -- Lists in which nothing stands twice.
-use Rattle.std.specs.Prelude.{◌≡◌, ◌⊎◌, ℕ, zero, suc, List, [], ◌∷◌, ◌++◌, slice_get, Some, None}
+use Rattle.std.specs.Prelude.{◌≡◌, ◌⊎◌, ℕ, zero, suc, List, [], ◌∷◌, ◌++◌, slice_get, Some}
 use Rattle.std.proofs.Common.{inl, inr, refl, ap, subst}
 use Rattle.vtr_base.specs.Lists.{Has}
 
@@ -26,7 +26,8 @@ pub once_append : {X : Type 0} (xs ys : List X) → Once xs → Once ys → ((x 
 once_append [] ys once_xs once_ys apart = once_ys
 once_append (x ∷ xs) ys once_xs once_ys apart = (
   λ has. elim (has_either xs ys x has) [ inl left ↦ once_xs.0 left | inr right ↦ apart x (inl refl) right ],
-  once_append xs ys once_xs.1 once_ys (λ z left right. apart z (inr left) right))
+  once_append xs ys once_xs.1 once_ys (λ z left right. apart z (inr left) right),
+)
 
 pub has_at : {X : Type 0} (xs : List X) (k : ℕ) (x : X) → slice_get xs k ≡ Some x → Has xs x
 has_at [] k x at = absurd (cc)
