@@ -4,12 +4,16 @@ use Rattle.std.specs.declared.cmp.Ordering.{Ordering}
 use Rattle.std.specs.Ordering.{nat_cmp, eq_by_cmp, is_eq}
 use Rattle.std.specs.Cmp.{IsTotalOrder, eq_by_cmp_equiv, nat_cmp_total, then_total, on_total}
 use Rattle.std.specs.FinMap as map
-use Rattle.std.specs.FinMap.{get-from_entries, get-insert, same_map, IsAntisymmetric, nat_cmp-IsAntisymmetric}
+use Rattle.std.specs.FinMap.{get-empty, get-from_entries, get-insert, same_map, IsAntisymmetric, nat_cmp-IsAntisymmetric}
 use Rattle.std.specs.BTreeMap as tree
 use Rattle.std.specs.BTreeMap.{BTreeMap, is_at}
 use Rattle.std.specs.Map.{lookup}
 use Rattle.std.proofs.lemmas.Map.Lookups.{exact_pairs}
-use Rattle.prog_map.specs.Choices.{site_cmp}
+use Rattle.pb_expand.specs.Graph.{Graph}
+use Rattle.prog_map.specs.Choices.{Choices, site_cmp, no_choices, mode_of, pick_of, IsProgOf}
+
+none_some : {X : Type 0} {x : X} → None ≡ Some x → ⊥
+none_some e = cc
 
 module _ {K X : Type 0} {R : K → K → Ordering} (o : IsTotalOrder R) where
   pub found : (q : K) (es : List (K × X)) → lookup (is_at (R q)) es ≡ map.find R q es
@@ -36,3 +40,16 @@ sites_total = then_total (on_total (λ (x : ℕ × ℕ). x.0) nat_cmp_total) (on
 
 pub sites_apart : IsAntisymmetric site_cmp
 sites_apart = exact_pairs nat_cmp nat_cmp nat_cmp-IsAntisymmetric nat_cmp-IsAntisymmetric
+
+-- where every site is off, each choice is one of its site
+pub none_is_prog : (g : Graph) (c : Choices) → c ≡ no_choices → IsProgOf g c
+none_is_prog g c is = record {
+  modes = λ pb mode chosen. absurd (none_some (sym (get-empty nat_cmp pb) ∙ sym (ap (λ x. mode_of x pb) is) ∙ chosen));
+  picks = λ pin mode number chosen. absurd (none_some (sym (get-empty site_cmp (pin, mode)) ∙ sym (ap (λ x. pick_of x pin mode) is) ∙ chosen));
+}
+
+-- what a programming says of a pin in a mode, from the tree of its edges
+pub pick_is : (p : BTreeMap (ℕ × ℕ) ℕ) (c : Choices) (pin mode : ℕ) (r : Option ℕ) → c.picks ≡ map.from_entries p.entries →
+    r ≡ tree.get site_cmp p (pin, mode) → r ≡ pick_of c pin mode
+pick_is p c pin mode r view at =
+    at ∙ sym (looked_up sites_total p (pin, mode)) ∙ ap (λ m. map.get m (pin, mode)) (sym view)

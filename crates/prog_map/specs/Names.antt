@@ -7,9 +7,9 @@ use Rattle.arch_types.specs.declared.block.PbType.{PbType}
 use Rattle.arch_types.specs.declared.block.Port.{Port}
 use Rattle.arch_types.specs.declared.block.Mode.{Mode}
 use Rattle.arch_types.specs.Tree.{modes_of, name_of_mode}
-use Rattle.arch_types.specs.Address.{Address, Hop, at, child_at}
+use Rattle.arch_types.specs.Address.{Address, Hop, child_at}
 use Rattle.pb_expand.specs.declared.number.PinAt.{PinAt}
-use Rattle.pb_expand.specs.Graph.{Graph, ports_at}
+use Rattle.pb_expand.specs.Graph.{Graph, block_at, mode_at}
 
 abbrev pub mode_text : PbType → ℕ → List ℕ
 mode_text block mode = option_map_or (λ m. name_of_mode m) (slice_get (modes_of block.kind) mode) []
@@ -40,16 +40,14 @@ pub record NamesPin (g : Graph) (text : List ℕ) (pin : ℕ) : Type 0 where
   pub there : slice_get g.pins pin ≡ Some is
   pub owner : List ℕ
   pub names_owner : NamesInstance g owner is.pb.0
+  pub block : PbType
+  pub is_block : block_at g is.pb.0 ≡ Some block
   pub port : Port
-  pub is_port : slice_get (ports_at g.root names_owner.address) is.port ≡ Some port
+  pub is_port : slice_get block.ports is.port ≡ Some port
   pub spelled : text ≡ owner ++ 46 ∷ (port.name ++ 91 ∷ (decimal is.bit ++ 93 ∷ []))
 
 -- the bytes name a mode of the instance of that number
 pub record NamesMode (g : Graph) (pb : ℕ) (text : List ℕ) (mode : ℕ) : Type 0 where
-  pub address : Address
-  pub is_instance : slice_get g.instances pb ≡ Some address
-  pub block : PbType
-  pub is_block : at g.root address ≡ Some block
   pub is : Mode
-  pub there : slice_get (modes_of block.kind) mode ≡ Some is
+  pub there : mode_at g pb mode ≡ Some is
   pub spelled : text ≡ name_of_mode is

@@ -6,4 +6,4 @@ mod lines;
 mod prog;
 
 pub use lines::next_line;
-pub use prog::SiteMap;
+pub use prog::Prog;
