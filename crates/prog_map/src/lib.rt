@@ -2,8 +2,12 @@
 //! and where the chosen edges lead back to.
 #![tactic(auto)]
 
+mod back;
 mod lines;
+mod live;
 mod prog;
 
+pub use back::follow;
 pub use lines::next_line;
+pub use live::is_live;
 pub use prog::Prog;
