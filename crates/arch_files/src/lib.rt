@@ -1,0 +1,4 @@
+//! Architecture files.
+#![tactic(auto)]
+
+mod scrap;

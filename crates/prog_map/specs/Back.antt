@@ -1,0 +1,17 @@
+-- One step back along the chosen edges.
+use Rattle.std.specs.Prelude.{◌≡◌, ℕ, Some, slice_get}
+use Rattle.pb_expand.specs.declared.number.Edge.{Edge}
+use Rattle.pb_expand.specs.Graph.{Graph}
+use Rattle.prog_map.specs.Choices.{Choices, mode_of, pick_of}
+use Rattle.prog_map.specs.Live.{IsLiveAt}
+
+-- the pin takes an edge from `source` in a mode that its owner is set to, and the owner is live
+pub record StepsBack (g : Graph) (c : Choices) (pin source : ℕ) : Type 0 where
+  pub number : ℕ
+  pub edge : Edge
+  pub is : slice_get g.edges number ≡ Some edge
+  pub ends : edge.dst.0 ≡ pin
+  pub starts : edge.src.0 ≡ source
+  pub taken : pick_of c pin edge.mode ≡ Some number
+  pub chosen : mode_of c edge.owner.0 ≡ Some edge.mode
+  pub live : IsLiveAt g c edge.owner.0
