@@ -1,4 +1,6 @@
 pub mod Maps
 pub mod Climbs
+pub mod Kept
 pub mod Owners
+pub mod Reading
 pub mod Written
