@@ -1,0 +1,126 @@
+-- The grammar of element text: bytes to pieces, and a file to its root element.
+use Rattle.std.specs.Prelude.{◌≡◌, ◌≢◌, ◌<◌, ◌==◌, ◌&&◌, ◌⊎◌, ℕ, Bool, true, false, cond, if◌then◌else◌, List, [], ◌∷◌, ◌++◌, length, drop, take, Option, Some, None, IsUtf8}
+use Rattle.vtr_base.specs.declared.Place.{Place}
+use Rattle.elem_text.specs.declared.Attr.{Attr}
+use Rattle.elem_text.specs.declared.Elem.{Elem}
+use Rattle.elem_text.specs.Bytes.{is_white, is_name_byte, is_not, IsSpan, IsNamed, place_after, first_place}
+use Rattle.elem_text.specs.References.{decoded}
+use Rattle.elem_text.specs.Tree.{Piece, opens, closes, hollow, run, skip, IsDocument}
+
+-- a double or a single quote
+abbrev pub IsQuote : ℕ → Type 0
+IsQuote q = (q ≡ 34) ⊎ (q ≡ 39)
+
+-- one of the attributes has this name
+abbrev pub HasName : List Attr → List ℕ → Type 0
+HasName [] name = ⊥
+HasName (a ∷ attrs) name = (a.name ≡ name) ⊎ HasName attrs name
+
+-- NAME = "VALUE", in either quotes and with white space round the sign; the value is what stands
+-- between the quotes, with its references read
+pub record IsAttr (bytes : List ℕ) (a : Attr) (after : List ℕ) : Type 0 where
+  pub quote : ℕ
+  pub raw : List ℕ
+  pub gap : List ℕ
+  pub gap' : List ℕ
+  pub at_gap : List ℕ
+  pub at_sign : List ℕ
+  pub at_quote : List ℕ
+  pub named : IsNamed bytes a.name at_gap
+  pub before_sign : IsSpan is_white at_gap gap (61 ∷ at_sign)
+  pub before_quote : IsSpan is_white at_sign gap' (quote ∷ at_quote)
+  pub is_quote : IsQuote quote
+  pub quoted : IsSpan (is_not quote) at_quote raw (quote ∷ after)
+  pub value : a.value ≡ decoded raw
+
+-- attributes, each behind white space and with a name of its own, then white space that may be
+-- missing, then `behind`; the first list holds the attributes of the tag that stand before
+abbrev pub Attributes : List Attr → List ℕ → List Attr → List ℕ → Type 0
+Attributes before bytes [] behind = (gap : List ℕ) × IsSpan is_white bytes gap behind
+Attributes before bytes (a ∷ attrs) behind =
+    (gap rest after : List ℕ) × IsSpan is_white bytes gap rest × (gap ≢ []) × IsAttr rest a after
+    × (HasName before a.name → ⊥) × Attributes (before ++ a ∷ []) after attrs behind
+
+-- how a start tag ends, and an empty tag
+abbrev pub tail_of : Bool → List ℕ → List ℕ
+tail_of false rest = 62 ∷ rest
+tail_of true rest = 47 ∷ 62 ∷ rest
+
+-- <NAME ATTRIBUTES>, or <NAME ATTRIBUTES/> where it is an empty tag
+pub record IsStartTag (bytes name : List ℕ) (attrs : List Attr) (empty : Bool) (rest : List ℕ) : Type 0 where
+  pub inside : List ℕ
+  pub behind : List ℕ
+  pub angle : bytes ≡ 60 ∷ inside
+  pub named : IsNamed inside name behind
+  pub attributes : Attributes [] behind attrs (tail_of empty rest)
+
+-- </NAME>, with white space before the '>'
+pub record IsEndTag (bytes name rest : List ℕ) : Type 0 where
+  pub inside : List ℕ
+  pub behind : List ℕ
+  pub gap : List ℕ
+  pub angle : bytes ≡ 60 ∷ 47 ∷ inside
+  pub named : IsNamed inside name behind
+  pub white : IsSpan is_white behind gap (62 ∷ rest)
+
+-- what follows the first '-->'
+abbrev pub behind_comment : List ℕ → Option (List ℕ)
+behind_comment (a ∷ b ∷ c ∷ rest) = if (c == 62) && ((b == 45) && (a == 45)) then Some rest else behind_comment (b ∷ c ∷ rest)
+behind_comment _ = None
+
+-- what follows the first '?>'
+abbrev pub behind_instruction : List ℕ → Option (List ℕ)
+behind_instruction (a ∷ b ∷ rest) = if (b == 62) && (a == 63) then Some rest else behind_instruction (b ∷ rest)
+behind_instruction _ = None
+
+-- <!-- .. -->
+pub record IsComment (bytes rest : List ℕ) : Type 0 where
+  pub inside : List ℕ
+  pub mark : bytes ≡ 60 ∷ 33 ∷ 45 ∷ 45 ∷ inside
+  pub ends : behind_comment inside ≡ Some rest
+
+-- <? .. ?>
+pub record IsInstruction (bytes rest : List ℕ) : Type 0 where
+  pub inside : List ℕ
+  pub mark : bytes ≡ 60 ∷ 63 ∷ inside
+  pub ends : behind_instruction inside ≡ Some rest
+
+-- text up to the next '<' or the file's end
+pub record IsRun (bytes raw rest : List ℕ) : Type 0 where
+  pub span : IsSpan (is_not 60) bytes raw rest
+  pub some : raw ≢ []
+
+-- the bytes begin with this piece at this place, and the rest follows it
+abbrev pub IsLex : Place → List ℕ → Piece → List ℕ → Type 0
+IsLex at bytes (opens name attrs place) rest = (place ≡ at) × IsStartTag bytes name attrs false rest
+IsLex at bytes (hollow name attrs place) rest = (place ≡ at) × IsStartTag bytes name attrs true rest
+IsLex at bytes (closes name) rest = IsEndTag bytes name rest
+IsLex at bytes (run raw) rest = IsRun bytes raw rest
+IsLex at bytes skip rest = IsComment bytes rest ⊎ IsInstruction bytes rest
+
+-- the bytes, which begin at one place, begin with these pieces; the rest follows them at the last place
+pub data Reads : Place → List ℕ → List Piece → Place → List ℕ → Type 0 where
+  reads_none : (at : Place) (bytes : List ℕ) → Reads at bytes [] at bytes
+  reads_one : (at : Place) (front later : List ℕ) (p : Piece) (ps : List Piece) (end : Place) (rest : List ℕ) →
+    IsLex at (front ++ later) p later → Reads (place_after at front) later ps end rest →
+    Reads at (front ++ later) (p ∷ ps) end rest
+
+-- the file begins with a byte order mark
+abbrev pub has_mark : List ℕ → Bool
+has_mark (a ∷ b ∷ c ∷ rest) = (a == 239) && ((b == 187) && (c == 191))
+has_mark _ = false
+
+-- the file behind the byte order mark, and where that begins
+abbrev pub body : List ℕ → List ℕ
+body bytes = if has_mark bytes then drop 3 bytes else bytes
+
+abbrev pub body_place : List ℕ → Place
+body_place bytes = if has_mark bytes then place_after first_place (take 3 bytes) else first_place
+
+-- the bytes are a file of element text with this root element
+pub record Spells (bytes : List ℕ) (e : Elem) : Type 0 where
+  pub utf8 : IsUtf8 bytes
+  pub ps : List Piece
+  pub end : Place
+  pub reads : Reads (body_place bytes) (body bytes) ps end []
+  pub document : IsDocument ps e

@@ -1,0 +1,4 @@
+pub mod Bytes
+pub mod References
+pub mod Tree
+pub mod Grammar

@@ -1,0 +1,52 @@
+-- What stands for a character in text and in values: '&lt;' and its kin, '&#N;' and '&#xH;'. Any
+-- other ampersand stands for itself.
+use Rattle.std.specs.Prelude.{◌≡◌, ◌+◌, ◌-◌, ◌==◌, ◌&&◌, ◌||◌, ℕ, zero, suc, Bool, true, false, not, nat_lt, nat_le, cond, if◌then◌else◌, List, [], ◌∷◌, ◌++◌, length, drop, slice_index, take_while, Option, Some, None, codes, encode_utf8, flat_map}
+use Rattle.std.specs.Char.{scalar, digit_value}
+use Rattle.std.specs.Str.Parse.{digits_value}
+
+-- the bytes begin with this word
+abbrev pub begins : List ℕ → List ℕ → Bool
+begins [] bytes = true
+begins (c ∷ word) [] = false
+begins (c ∷ word) (b ∷ bytes) = (b == c) && begins word bytes
+
+abbrev pub is_digit_of : ℕ → ℕ → Bool
+is_digit_of base b = nat_lt (digit_value b) base
+
+-- a character, and the number of bytes behind the ampersand that stand for it
+pub record Referred : Type 0 where
+  pub char : ℕ
+  pub len : ℕ
+
+-- behind the first bytes, digits, which are the number of a Unicode scalar value, and a semicolon
+unfoldable pub numbered : ℕ → ℕ → List ℕ → Option Referred
+numbered base past bytes =
+    let digits = take_while (is_digit_of base) (drop past bytes) in
+    let value = digits_value base digits in
+    if nat_lt 0 (length digits) && ((slice_index bytes (past + length digits) == 59) && scalar value)
+      then Some (record { char = value; len = past + length digits + 1 }) else None
+
+-- the reference that the bytes behind an ampersand begin with
+unfoldable pub reference : List ℕ → Option Referred
+reference bytes =
+    if begins (codes "lt;") bytes then Some (record { char = 60; len = 3 }) else
+    if begins (codes "gt;") bytes then Some (record { char = 62; len = 3 }) else
+    if begins (codes "amp;") bytes then Some (record { char = 38; len = 4 }) else
+    if begins (codes "quot;") bytes then Some (record { char = 34; len = 5 }) else
+    if begins (codes "apos;") bytes then Some (record { char = 39; len = 5 }) else
+    if begins (codes "#x") bytes then numbered 16 2 bytes else
+    if begins (codes "#") bytes then numbered 10 1 bytes else None
+
+-- what the bytes stand for, past the first so many, which belong to a reference
+abbrev pub decoded_past : ℕ → List ℕ → List ℕ
+decoded_past skip [] = []
+decoded_past (suc skip) (b ∷ bytes) = decoded_past skip bytes
+decoded_past zero (b ∷ bytes) = elim (b == 38) [
+    false ↦ b ∷ decoded_past zero bytes
+  | true ↦ elim (reference bytes) [
+      Some r ↦ encode_utf8 r.char ++ decoded_past r.len bytes
+    | None ↦ 38 ∷ decoded_past zero bytes ] ]
+
+-- what the bytes stand for
+abbrev pub decoded : List ℕ → List ℕ
+decoded bytes = decoded_past 0 bytes
