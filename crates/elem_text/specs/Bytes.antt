@@ -1,6 +1,6 @@
 -- Classes of bytes, the longest front of a class, names, and places.
 use Rattle.std.specs.Prelude.{◌≡◌, ◌+◌, ◌==◌, ◌&&◌, ◌||◌, ℕ, Bool, true, false, not, min, nat_le, cond, if◌then◌else◌, List, [], ◌∷◌, ◌++◌}
-use Rattle.vtr_base.specs.declared.Place.{Place}
+use Rattle.vtr_base.specs.declared.place.Place.{Place}
 
 -- space, tab, carriage return and line feed
 unfoldable pub is_white : ℕ → Bool
@@ -51,7 +51,7 @@ pub record IsNamed (bytes name rest : List ℕ) : Type 0 where
 -- the place behind a byte at this place; both counts stand still at their type's end
 abbrev pub place_behind : Place → ℕ → Place
 place_behind at b = if b == 10 then record { line = min (at.line + 1) 4294967295; byte = 1 }
-                    else record { line = at.line; byte = min (at.byte + 1) 4294967295 }
+    else record { line = at.line; byte = min (at.byte + 1) 4294967295 }
 
 -- the place behind these bytes, the first of which has this place
 abbrev pub place_after : Place → List ℕ → Place

@@ -1,8 +1,8 @@
 -- The grammar of element text: bytes to pieces, and a file to its root element.
 use Rattle.std.specs.Prelude.{◌≡◌, ◌≢◌, ◌<◌, ◌==◌, ◌&&◌, ◌⊎◌, ℕ, Bool, true, false, cond, if◌then◌else◌, List, [], ◌∷◌, ◌++◌, length, drop, take, Option, Some, None, IsUtf8}
-use Rattle.vtr_base.specs.declared.Place.{Place}
-use Rattle.elem_text.specs.declared.Attr.{Attr}
-use Rattle.elem_text.specs.declared.Elem.{Elem}
+use Rattle.vtr_base.specs.declared.place.Place.{Place}
+use Rattle.elem_text.specs.declared.elem.Attr.{Attr}
+use Rattle.elem_text.specs.declared.elem.Elem.{Elem}
 use Rattle.elem_text.specs.Bytes.{is_white, is_name_byte, is_not, IsSpan, IsNamed, place_after, first_place}
 use Rattle.elem_text.specs.References.{decoded}
 use Rattle.elem_text.specs.Tree.{Piece, opens, closes, hollow, run, skip, IsDocument}
@@ -99,11 +99,10 @@ IsLex at bytes (run raw) rest = IsRun bytes raw rest
 IsLex at bytes skip rest = IsComment bytes rest ⊎ IsInstruction bytes rest
 
 -- the bytes, which begin at one place, begin with these pieces; the rest follows them at the last place
-pub data Reads : Place → List ℕ → List Piece → Place → List ℕ → Type 0 where
-  reads_none : (at : Place) (bytes : List ℕ) → Reads at bytes [] at bytes
-  reads_one : (at : Place) (front later : List ℕ) (p : Piece) (ps : List Piece) (end : Place) (rest : List ℕ) →
-    IsLex at (front ++ later) p later → Reads (place_after at front) later ps end rest →
-    Reads at (front ++ later) (p ∷ ps) end rest
+abbrev pub Reads : Place → List ℕ → List Piece → Place → List ℕ → Type 0
+Reads at bytes [] end rest = (end ≡ at) × (rest ≡ bytes)
+Reads at bytes (p ∷ ps) end rest =
+    (front later : List ℕ) × (bytes ≡ front ++ later) × IsLex at bytes p later × Reads (place_after at front) later ps end rest
 
 -- the file begins with a byte order mark
 abbrev pub has_mark : List ℕ → Bool

@@ -1,7 +1,8 @@
 -- What stands for a character in text and in values: '&lt;' and its kin, '&#N;' and '&#xH;'. Any
 -- other ampersand stands for itself.
 use Rattle.std.specs.Prelude.{◌≡◌, ◌+◌, ◌-◌, ◌==◌, ◌&&◌, ◌||◌, ℕ, zero, suc, Bool, true, false, not, nat_lt, nat_le, cond, if◌then◌else◌, List, [], ◌∷◌, ◌++◌, length, drop, slice_index, take_while, Option, Some, None, codes, encode_utf8, flat_map}
-use Rattle.std.specs.Char.{scalar, digit_value}
+use lib.Utf8.{scalar}
+use Rattle.std.specs.Char.{digit_value}
 use Rattle.std.specs.Str.Parse.{digits_value}
 
 -- the bytes begin with this word
@@ -24,7 +25,7 @@ numbered base past bytes =
     let digits = take_while (is_digit_of base) (drop past bytes) in
     let value = digits_value base digits in
     if nat_lt 0 (length digits) && ((slice_index bytes (past + length digits) == 59) && scalar value)
-      then Some (record { char = value; len = past + length digits + 1 }) else None
+    then Some (record { char = value; len = past + length digits + 1 }) else None
 
 -- the reference that the bytes behind an ampersand begin with
 unfoldable pub reference : List ℕ → Option Referred
@@ -42,10 +43,12 @@ abbrev pub decoded_past : ℕ → List ℕ → List ℕ
 decoded_past skip [] = []
 decoded_past (suc skip) (b ∷ bytes) = decoded_past skip bytes
 decoded_past zero (b ∷ bytes) = elim (b == 38) [
-    false ↦ b ∷ decoded_past zero bytes
+  | false ↦ b ∷ decoded_past zero bytes
   | true ↦ elim (reference bytes) [
-      Some r ↦ encode_utf8 r.char ++ decoded_past r.len bytes
-    | None ↦ 38 ∷ decoded_past zero bytes ] ]
+    | Some r ↦ encode_utf8 r.char ++ decoded_past r.len bytes
+    | None ↦ 38 ∷ decoded_past zero bytes
+  ]
+]
 
 -- what the bytes stand for
 abbrev pub decoded : List ℕ → List ℕ

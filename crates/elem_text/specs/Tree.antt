@@ -1,8 +1,8 @@
 -- Pieces of a file, and the one element that they make.
 use Rattle.std.specs.Prelude.{◌≡◌, ◌+◌, ◌≤◌, ℕ, true, List, [], ◌∷◌, ◌++◌, flat_map}
-use Rattle.vtr_base.specs.declared.Place.{Place}
-use Rattle.elem_text.specs.declared.Attr.{Attr}
-use Rattle.elem_text.specs.declared.Elem.{Elem, roll-Elem}
+use Rattle.vtr_base.specs.declared.place.Place.{Place}
+use Rattle.elem_text.specs.declared.elem.Attr.{Attr}
+use Rattle.elem_text.specs.declared.elem.Elem.{Elem, roll-Elem}
 use Rattle.elem_text.specs.Bytes.{AreAll, is_white}
 use Rattle.elem_text.specs.References.{decoded}
 
@@ -26,14 +26,14 @@ joined runs = flat_map decoded runs
 pub data Content : List Piece → List (List ℕ) → List Elem → Type 0 where
   nothing : Content [] [] []
   words : (raw : List ℕ) (ps : List Piece) (runs : List (List ℕ)) (kids : List Elem) →
-    Content ps runs kids → Content (run raw ∷ ps) (raw ∷ runs) kids
+      Content ps runs kids → Content (run raw ∷ ps) (raw ∷ runs) kids
   passed : (ps : List Piece) (runs : List (List ℕ)) (kids : List Elem) →
-    Content ps runs kids → Content (skip ∷ ps) runs kids
+      Content ps runs kids → Content (skip ∷ ps) runs kids
   leaf : (n : List ℕ) (a : List Attr) (at : Place) (ps : List Piece) (runs : List (List ℕ)) (kids : List Elem) →
-    Content ps runs kids → Content (hollow n a at ∷ ps) runs (elem n a [] [] at ∷ kids)
+      Content ps runs kids → Content (hollow n a at ∷ ps) runs (elem n a [] [] at ∷ kids)
   node : (n : List ℕ) (a : List Attr) (at : Place) (inner : List Piece) (own : List (List ℕ)) (below : List Elem) (ps : List Piece) (runs : List (List ℕ)) (kids : List Elem) →
-    Content inner own below → Content ps runs kids →
-    Content (opens n a at ∷ (inner ++ closes n ∷ ps)) runs (elem n a (joined own) below at ∷ kids)
+      Content inner own below → Content ps runs kids →
+      Content (opens n a at ∷ (inner ++ closes n ∷ ps)) runs (elem n a (joined own) below at ∷ kids)
 
 abbrev pub AreWhite : List (List ℕ) → Type 0
 AreWhite [] = Unit {0}
