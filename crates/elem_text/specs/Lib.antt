@@ -2,3 +2,4 @@ pub mod Bytes
 pub mod References
 pub mod Tree
 pub mod Grammar
+pub mod Lexed

@@ -3,6 +3,12 @@
 //! reads back.
 #![tactic(auto)]
 
+mod bytes;
 mod elem;
+mod error;
+mod references;
+mod tags;
+
 
 pub use elem::{Attr, Elem};
+pub use error::ElemError;

@@ -1,0 +1,4 @@
+pub mod Spans
+pub mod Utf8
+pub mod Referred
+pub mod Numbered
