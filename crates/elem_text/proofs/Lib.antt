@@ -2,3 +2,5 @@ pub mod Spans
 pub mod Utf8
 pub mod Referred
 pub mod Numbered
+pub mod Attrs
+pub mod Comments

@@ -72,3 +72,22 @@ named_from bs f r l s = record { span = s; letter = begins_front f r (let P : Li
     begins_front [] [] l s = l
     begins_front [] (x ∷ r) l s = absurd (false≢true (sym s ∙ letter_goes_on x l))
     begins_front (x ∷ f) r l s = l
+
+pub begun_by : (c : ℕ) (f t r : List ℕ) → r ≡ f ++ c ∷ t → r ≡ [] → ⊥
+begun_by c [] t r e n = cc
+begun_by c (x ∷ f) t r e n = cc
+
+pub stops_more : (p : ℕ → Bool) (r more : List ℕ) → Stops p r → (r ≡ [] → ⊥) → Stops p (r ++ more)
+stops_more p [] more s n = absurd (n refl)
+stops_more p (x ∷ r) more s n = s
+
+-- a front that has stopped is the front under more bytes
+pub span_more : (p : ℕ → Bool) (bs f r more : List ℕ) → IsSpan p bs f r → (r ≡ [] → ⊥) → IsSpan p (bs ++ more) f (r ++ more)
+span_more p bs f r more s n = record {
+  spelled = ap (λ l. l ++ more) s.spelled ∙ append_assoc f r more;
+  all = s.all;
+  stops = stops_more p r more s.stops n;
+}
+
+pub named_more : (bs f r more : List ℕ) → IsNamed bs f r → (r ≡ [] → ⊥) → IsNamed (bs ++ more) f (r ++ more)
+named_more bs f r more s n = record { span = span_more is_name_byte bs f r more s.span n; letter = s.letter }

@@ -3,3 +3,4 @@ pub mod References
 pub mod Tree
 pub mod Grammar
 pub mod Lexed
+pub mod Next

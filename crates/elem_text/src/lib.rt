@@ -6,6 +6,8 @@
 mod bytes;
 mod elem;
 mod error;
+mod lex;
+mod pieces;
 mod references;
 mod tags;
 

@@ -1,11 +1,10 @@
-ghost use Rattle.std.specs.Prelude.{◌≡◌, ◌∷◌, [], ◌<◌, ◌⊎◌, ℕ, List, Some, None, Bool, IfOk, IsTrue, ◌↔◌, MatchOption, IsUtf8, length};
-ghost use Rattle.std.specs.Option.{option_map};
+ghost use Rattle.std.specs.Prelude.{◌≡◌, ◌∷◌, [], ◌<◌, ◌⊎◌, ℕ, List, Some, None, Bool, IfOk, IfSome, IsTrue, ◌↔◌, MatchOption, IsUtf8, length};
 ghost use Rattle.vtr_base.specs.declared.place.Place.{Place};
 ghost use Rattle.elem_text.specs.Bytes.{is_white, IsSpan, IsNamed};
 ghost use Rattle.elem_text.specs.References.{decoded};
-ghost use Rattle.elem_text.specs.Grammar.{HasName, IsQuote, IsQuoted, IsAttr, Attributes, tail_of, IsStartTag, IsEndTag, IsLex, behind_comment, behind_instruction};
-ghost use Rattle.elem_text.specs.Lexed.{lexed};
-ghost use Rattle.elem_text.specs.declared.tags.Flaw.TheVariants.{OutOfMemory};
+ghost use Rattle.elem_text.specs.Grammar.{HasName, IsQuote, IsQuoted, IsAttr, Attributes, tail_of, IsStartTag, IsEndTag, IsLex};
+ghost use Rattle.elem_text.specs.Lexed.{lexed, IsUtf8Lex};
+ghost use Rattle.elem_text.specs.Next.{IsNext, behind_next};
 
 use std::alloc::{AllocError, Global};
 
@@ -14,38 +13,11 @@ use vtr_base::Text;
 
 use crate::bytes::{begins_with_letter, byte, until, white, word};
 use crate::elem::Attr;
+use crate::lex::{Flaw, Lex};
 use crate::references::{decode, kept};
 
-/// Why no piece was read.
-#[derive(Clone, Copy, Drop)]
-pub enum Flaw {
-    /// The file's end cuts it off.
-    Cut,
-    /// No bytes behind these make a piece of them.
-    Bad,
-    OutOfMemory,
-}
-
-impl From<AllocError> for Flaw {
-    ghost from_gives = { λ _ e. e ≡ OutOfMemory };
-
-    fn from(_e: AllocError) -> Flaw {
-        Flaw::OutOfMemory
-    }
-}
-
-/// A piece of a file, without its place. Names and runs are as they stand in the file.
-#[derive(Drop)]
-pub enum Lex<'a> {
-    Opens(&'a [u8], Items<Attr>),
-    Hollow(&'a [u8], Items<Attr>),
-    Closes(&'a [u8]),
-    Run(&'a [u8]),
-    Skip,
-}
-
 /// Which flaw it is that a byte is missing before `bytes`.
-fn ended(bytes: &[u8]) -> Flaw {
+pub fn ended(bytes: &[u8]) -> Flaw {
     if bytes.is_empty() {
         Flaw::Cut
     } else {
@@ -100,6 +72,7 @@ fn sign(bytes: &[u8], b: u8) -> Result<&[u8], Flaw>
 }
 
 /// An attribute as it stands in the file, and what follows it.
+#[derive(Drop)]
 struct RawAttr<'a> {
     name: &'a [u8],
     raw: &'a [u8],
@@ -134,4 +107,102 @@ fn stands(attrs: &[Attr], name: &[u8]) -> bool
         }
     }
     false
+}
+
+/// How a tag ends, and what follows it.
+#[derive(Drop)]
+pub struct TagEnd<'a> {
+    pub empty: bool,
+    pub rest: &'a [u8],
+}
+
+/// The end of a tag, where one stands here.
+fn tag_end(bytes: &[u8]) -> Result<Option<TagEnd<'_>>, Flaw>
+    ensures whole { IfOk result (λ t. IfSome t (λ end. bytes.now ≡ tail_of end.empty end.rest.now)) }
+{
+    if let Some(rest) = byte(bytes, b'>') {
+        return Ok(Some(TagEnd { empty: false, rest }));
+    }
+    let Some(rest) = byte(bytes, b'/') else {
+        return Ok(None);
+    };
+    let Some(rest) = byte(rest, b'>') else {
+        return Err(ended(rest));
+    };
+    Ok(Some(TagEnd { empty: true, rest }))
+}
+
+/// What stands next in a start tag: its end, or an attribute and what follows that.
+#[derive(Drop)]
+pub enum Next<'a> {
+    End(TagEnd<'a>),
+    Attr(Attr, &'a [u8]),
+}
+
+/// What stands behind the attributes `before`, and behind white space.
+fn next_in_tag<'a>(alloc: Global, bytes: &'a [u8], before: &[Attr]) -> Result<Next<'a>, Flaw>
+    requires { IsUtf8 bytes.now }
+    ensures whole { IfOk result (λ n. IsNext before.now bytes.now n) }
+    ensures utf8 { IfOk result (λ n. IsUtf8 (behind_next n)) }
+{
+    let (gap, rest) = white(bytes);
+    if let Some(end) = tag_end(rest)? {
+        return Ok(Next::End(end));
+    }
+    if gap.is_empty() {
+        return Err(ended(rest));
+    }
+    let found = attr(rest, before)?;
+    let name = kept(alloc, found.name)?;
+    let value = decode(alloc, found.raw)?;
+    Ok(Next::Attr(Attr { name, value }, found.after))
+}
+
+/// The attributes of a start tag, and how it ends.
+#[derive(Drop)]
+pub struct TagRest<'a> {
+    pub attrs: Items<Attr>,
+    pub end: TagEnd<'a>,
+}
+
+/// What follows the name of a start tag.
+fn tag_rest(alloc: Global, bytes: &[u8]) -> Result<TagRest<'_>, Flaw>
+    requires { IsUtf8 bytes.now }
+    ensures whole { IfOk result (λ r. Attributes [] bytes.now r.attrs (tail_of r.end.empty r.end.rest.now)) }
+    ensures utf8 { IfOk result (λ r. IsUtf8 r.end.rest.now) }
+{
+    let mut attrs = Items::new(alloc);
+    let mut left = bytes;
+    'attrs: loop {
+        match next_in_tag(alloc, left, attrs.as_slice())? {
+            Next::End(end) => return Ok(TagRest { attrs, end }),
+            Next::Attr(attr, after) => {
+                attrs.push(attr)?;
+                left = after;
+            }
+        }
+    }
+}
+
+/// The start tag whose `<` stands before `inside`, and what follows it.
+pub fn start_tag(alloc: Global, inside: &[u8]) -> Result<(Lex<'_>, &[u8]), Flaw>
+    requires { IsUtf8 inside.now }
+    ensures whole { IfOk result (λ r. (at : Place) → IsLex at (60 ∷ inside.now) (lexed at r.0) r.1.now) }
+    ensures utf8 { IfOk result (λ r. IsUtf8Lex r.0 × IsUtf8 r.1.now) }
+{
+    let (name, rest) = name(inside)?;
+    let TagRest { attrs, end } = tag_rest(alloc, rest)?;
+    if end.empty {
+        return Ok((Lex::Hollow(name, attrs), end.rest));
+    }
+    Ok((Lex::Opens(name, attrs), end.rest))
+}
+
+/// The end tag whose `</` stands before `inside`, and what follows it.
+pub fn end_tag(inside: &[u8]) -> Result<(&[u8], &[u8]), Flaw>
+    ensures whole { IfOk result (λ r. IsEndTag (60 ∷ 47 ∷ inside.now) r.0.now r.1.now) }
+{
+    let (name, rest) = name(inside)?;
+    let rest = sign(rest, b'>')?;
+    Ok((name, rest))
 }
