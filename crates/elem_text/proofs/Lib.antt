@@ -4,3 +4,4 @@ pub mod Referred
 pub mod Numbered
 pub mod Attrs
 pub mod Comments
+pub mod Frames

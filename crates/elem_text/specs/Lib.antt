@@ -4,3 +4,4 @@ pub mod Tree
 pub mod Grammar
 pub mod Lexed
 pub mod Next
+pub mod Stack

@@ -9,6 +9,7 @@ mod error;
 mod lex;
 mod pieces;
 mod references;
+mod stack;
 mod tags;
 
 
