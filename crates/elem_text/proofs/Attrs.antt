@@ -52,12 +52,21 @@ reading_on : (all : List ℕ) (done : List Attr) (left : List ℕ) (a : Attr) (a
     Reading all (done ++ a ∷ []) after.now
 reading_on all done left a after r n = record {
   on = λ more attrs x later.
-    let rest = n.1 in
-    let whole : Attributes done (left ++ more) (a ∷ attrs) x =
-      (n.0, rest ++ more, n.2, after.now ++ more, span_more is_white left n.0 rest more n.3 (attr_some rest a.name n.2 after.now n.5),
-       n.4, attr_more rest a.name n.2 after.now more n.5, n.6, n.7, later) in
-    let P : List Attr → Type 0 = λ l. Attributes [] (all ++ more) l x in
-    subst P (sym (append_assoc done (a ∷ []) attrs)) (r.on more (a ∷ attrs) x whole);
+      let rest = n.1 in
+      let whole : Attributes done (left ++ more) (a ∷ attrs) x = (
+        n.0,
+        rest ++ more,
+        n.2,
+        after.now ++ more,
+        span_more is_white left n.0 rest more n.3 (attr_some rest a.name n.2 after.now n.5),
+        n.4,
+        attr_more rest a.name n.2 after.now more n.5,
+        n.6,
+        n.7,
+        later,
+      ) in
+      let P : List Attr → Type 0 = λ l. Attributes [] (all ++ more) l x in
+      subst P (sym (append_assoc done (a ∷ []) attrs)) (r.on more (a ∷ attrs) x whole);
 }
 
 pub reading_none : (all : List ℕ) → Reading all [] all

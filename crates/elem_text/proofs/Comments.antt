@@ -64,6 +64,7 @@ comment_ends (a ∷ b ∷ c ∷ bs) rest e = by_test (λ f. comment_ends (b ∷ 
       where
         same : (x : ℕ) → eqb x 62 ≡ true → x ≡ 62
         same x e = grind (arith, nat_tests)
+
     by_test : (behind_comment (b ∷ c ∷ bs) ≡ Some rest → (front : List ℕ) × (b ∷ c ∷ bs ≡ front ++ 62 ∷ rest)) →
         (t : Bool) → (eqb c 62 && (eqb b 45 && eqb a 45)) ≡ t → cond t (Some bs) (behind_comment (b ∷ c ∷ bs)) ≡ Some rest → (front : List ℕ) × (a ∷ b ∷ c ∷ bs ≡ front ++ 62 ∷ rest)
     by_test on true t e = (a ∷ b ∷ [], let f : c ≡ 62 = is c (eqb b 45 && eqb a 45) t in cc)
@@ -79,6 +80,7 @@ instruction_ends (a ∷ b ∷ bs) rest e = by_test (λ f. instruction_ends (b �
       where
         same : (x : ℕ) → eqb x 62 ≡ true → x ≡ 62
         same x e = grind (arith, nat_tests)
+
     by_test : (behind_instruction (b ∷ bs) ≡ Some rest → (front : List ℕ) × (b ∷ bs ≡ front ++ 62 ∷ rest)) →
         (t : Bool) → (eqb b 62 && eqb a 63) ≡ t → cond t (Some bs) (behind_instruction (b ∷ bs)) ≡ Some rest → (front : List ℕ) × (a ∷ b ∷ bs ≡ front ++ 62 ∷ rest)
     by_test on true t e = (a ∷ [], let f : b ≡ 62 = is b (eqb a 63) t in cc)

@@ -47,9 +47,10 @@ top_first_empty (f ∷ fs) e = absurd (omega (arith, ap length e, length-append 
 
 -- a run is white where nothing follows its longest white front
 pub white_whole : (raw f rest : List ℕ) → IsSpan is_white raw f rest → AreAll is_white raw ↔ (rest ≡ [])
-white_whole raw f rest s =
-    (λ a. (same_span is_white raw f raw rest [] s (record { spelled = sym (append-nil raw); all = a; stops = tt })).1,
-     λ e. let P : List ℕ → Type 0 = λ l. AreAll is_white l in subst P (sym (s.spelled ∙ (ap (λ l. f ++ l) e ∙ append-nil f))) s.all)
+white_whole raw f rest s = (
+  λ a. (same_span is_white raw f raw rest [] s (record { spelled = sym (append-nil raw); all = a; stops = tt })).1,
+  λ e. let P : List ℕ → Type 0 = λ l. AreAll is_white l in subst P (sym (s.spelled ∙ (ap (λ l. f ++ l) e ∙ append-nil f))) s.all,
+)
 
 pub closes_name : (top outer : Frame) (below rest : List Frame) (name : List ℕ) → below ≡ rest ++ outer ∷ [] → top.name ≡ name → MayClose top (top_first below) name
 closes_name top outer below rest name e n =
@@ -88,7 +89,7 @@ pub closed_is : (dest outer inner top : Frame) (below rest : List Frame) (pushed
 closed_is dest outer inner top below rest pushed b i d p =
     let k : pushed ≡ outer.kids ++ closed top ∷ [] = p ∙ (ap (λ (g : Frame). g.kids ++ closed inner ∷ []) d ∙ ap (λ (g : Frame). outer.kids ++ closed g ∷ []) i) in
     let P : Frame → Type 0 = λ g. stack_of (record { top = record { name = g.name; attrs = g.attrs; text = g.text; kids = pushed; place = g.place }; below = rest })
-      ≡ record { top = with_kid outer (closed top); below = top_first rest } in
+    ≡ record { top = with_kid outer (closed top); below = top_first rest } in
     let Q : List Elem → Type 0 = λ l. stack_of (record { top = record { name = outer.name; attrs = outer.attrs; text = outer.text; kids = l; place = outer.place }; below = rest })
-      ≡ record { top = with_kid outer (closed top); below = top_first rest } in
+    ≡ record { top = with_kid outer (closed top); below = top_first rest } in
     subst P (sym d) (subst Q (sym k) refl) ∙ sym (closes_to top outer below rest b)

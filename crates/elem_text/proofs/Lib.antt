@@ -5,3 +5,5 @@ pub mod Numbered
 pub mod Attrs
 pub mod Comments
 pub mod Frames
+pub mod Stacks
+pub mod Along

@@ -47,6 +47,7 @@ module _ (base : ℕ) (b f r : List ℕ) (s : IsSpan (is_digit_of base) b f r) w
     where
       below : (x : ℕ) → digit_value x < 36 → x < 128
       below x d = grind (arith, nat_tests)
+
       ascii : (f : List ℕ) → AllDigits base f → IsAscii f
       ascii [] a i = omega arith
       ascii (x ∷ f) a zero = below x (omega (arith, a.0))
@@ -57,10 +58,11 @@ module _ (base : ℕ) (b f r : List ℕ) (s : IsSpan (is_digit_of base) b f r) w
   no_number h bad past =
       let bad' : IsNumeral base f × (digits_value base f < 2 ^ 32) → ⊥ = rw (no_plus base f h s.all) at bad in
       numbered_none base past b f (leading_span _ b f r s)
-        (λ some _ c. bad' ((positive (length f) some, all_digits base f s.all), small (digits_value base f) c))
+      (λ some _ c. bad' ((positive (length f) some, all_digits base f s.all), small (digits_value base f) c))
     where
       positive : (n : ℕ) → ltb 0 n ≡ true → 0 < n
       positive n e = grind (arith, nat_tests)
+
       small : (n : ℕ) → scalar n ≡ true → n < 2 ^ 32
       small n e = grind (arith, nat_tests)
 
@@ -79,10 +81,11 @@ module _ (base : ℕ) (b f r : List ℕ) (s : IsSpan (is_digit_of base) b f r) w
       let semi : begins (59 ∷ []) (drop (length f) b) ≡ true = ap (begins (59 ∷ [])) (at_rest ∙ m) in
       let l : length b - length rest ≡ length f + 1 = omega (arith, ap length s.spelled, length-append f r, ap length m) in
       numbered_some base past b f (leading_span _ b f r s) (positive (length f) n'.0) semi (ap scalar (sym e') ∙ sc)
-        ∙ ap2 (sym (ce ∙ e')) (sym l)
+      ∙ ap2 (sym (ce ∙ e')) (sym l)
     where
       positive : (n : ℕ) → 0 < n → ltb 0 n ≡ true
       positive n e = grind (arith, nat_tests)
+
       ap2 : {m n k l : ℕ} → m ≡ n → k ≡ l → same (record { char = m; len = past + k }) ≡ same (record { char = n; len = past + l })
       ap2 p q = cc
 
@@ -161,7 +164,7 @@ by_number : (base : ℕ) (b word rest : List ℕ) (r : Option (ℕ × Bor (List 
 by_number base b word rest None e s h m = e ∙ (ap (numbered base (length word)) (ap (drop (length word)) s ∙ drop_at word rest (length word) refl) ∙ h (length word))
 by_number base b word rest (Some x) e s h m =
     let l : length b - length x.1.now ≡ length word + (length rest - length x.1.now) =
-        omega (arith, ap length s, length-append word rest, ap length m.1, length-append m.0 (59 ∷ x.1.now)) in
+    omega (arith, ap length s, length-append word rest, ap length m.1, length-append m.0 (59 ∷ x.1.now)) in
     at_len b x.0 _ _ (e ∙ (ap (numbered base (length word)) (ap (drop (length word)) s ∙ drop_at word rest (length word) refl) ∙ h (length word))) l
 
 pub is_hex : (b rest : List ℕ) (r : Option (ℕ × Bor (List ℕ))) → NoWord b → begins (codes "#x") b ≡ true → b ≡ codes "#x" ++ rest →

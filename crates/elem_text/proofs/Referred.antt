@@ -106,4 +106,4 @@ pub decoded_on : (out out' new plain shown rest at rest' all : List ℕ) → IsS
     new ++ decoded rest' ≡ out' ++ decoded at → out ++ decoded rest ≡ all → new ++ decoded rest' ≡ all
 decoded_on out out' new plain shown rest at rest' all s e o n i =
     n ∙ (ap (λ l. l ++ decoded at) (o ∙ ap (λ l. out ++ l) e) ∙ (append_assoc out plain (decoded at)
-      ∙ (ap (λ l. out ++ l) (sym (decoded_plain plain at s.all) ∙ ap decoded (sym s.spelled)) ∙ i)))
+    ∙ (ap (λ l. out ++ l) (sym (decoded_plain plain at s.all) ∙ ap decoded (sym s.spelled)) ∙ i)))

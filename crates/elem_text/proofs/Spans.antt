@@ -1,6 +1,6 @@
 -- The longest front of a class of bytes: how a loop finds it, that there is one, and what more bytes
 -- behind it change.
-use Rattle.std.proofs.Common.{◌≡◌, ℕ, zero, suc, ◌<◌, ◌≤◌, ◌+◌, Bool, true, false, List, [], ◌∷◌, ◌++◌, length, take, drop, get_or, refl, sym, ap, subst, ◌∙◌, add-one, arith, append_assoc}
+use Rattle.std.proofs.Common.{◌≡◌, ℕ, zero, suc, ◌<◌, ◌≤◌, ◌+◌, Bool, true, false, List, [], ◌∷◌, ◌++◌, length, take, drop, get_or, refl, sym, ap, subst, ◌∙◌, add-one, arith, append_assoc, eqb}
 use Rattle.std.proofs.lemmas.List.{take-append-drop}
 use Rattle.std.proofs.lemmas.Bool.{false≢true}
 use Rattle.std.proofs.lemmas.Bool.Decides.{nat_tests}
@@ -91,3 +91,10 @@ span_more p bs f r more s n = record {
 
 pub named_more : (bs f r more : List ℕ) → IsNamed bs f r → (r ≡ [] → ⊥) → IsNamed (bs ++ more) f (r ++ more)
 named_more bs f r more s n = record { span = span_more is_name_byte bs f r more s.span n; letter = s.letter }
+
+pub nothing_in : (bs : List ℕ) → eqb (length bs) 0 ≡ true → bs ≡ []
+nothing_in [] t = refl
+nothing_in (x ∷ bs) t = absurd (positive (length bs) t)
+  where
+    positive : (n : ℕ) → eqb (suc n) 0 ≡ true → ⊥
+    positive n e = grind (arith, nat_tests)

@@ -2,17 +2,19 @@
 use Rattle.std.proofs.Common.{◌≡◌, ℕ, zero, suc, ◌<◌, ◌≤◌, ◌+◌, Bool, true, false, List, [], ◌∷◌, ◌++◌, length, take, drop, get_or, refl, sym, ap, subst, ◌∙◌, arith, append_assoc, length-append, append-nil, IsUtf8, IsAscii, ⊎_elim}
 use Rattle.std.proofs.lemmas.Bool.Decides.{nat_tests}
 use Rattle.elem_text.specs.Bytes.{IsSpan, IsNamed, AreAll, Stops, is_not, is_white, is_letter, is_name_byte}
+use lib.Utf8
 use Rattle.elem_text.specs.Grammar.{IsAttr, IsQuoted, IsQuote, IsEndTag, IsComment, IsInstruction, tail_of}
 use Rattle.elem_text.proofs.Comments.{comment_ends, instruction_ends}
 use Rattle.std.proofs.lemmas.List.{take_at, drop_at, get_or_at}
-use Rattle.std.proofs.lemmas.Str.{IsUtf8-take, IsUtf8-drop, IsUtf8-nil, IsUtf8-from_ascii, IsCharBoundary-before_ascii, IsCharBoundary-after_ascii}
+use Rattle.std.proofs.lemmas.Str.{IsUtf8-take, IsUtf8-drop, IsUtf8-nil, IsUtf8-from_ascii, IsCharBoundary-before_ascii, IsCharBoundary-after_ascii, IsUtf8-past_char}
 
 pub utf8_apart : (f r : List ℕ) (c : ℕ) → c < 128 → IsUtf8 (f ++ c ∷ r) → IsUtf8 f × IsUtf8 (c ∷ r)
 utf8_apart f r c h u =
     let at = IsCharBoundary-before_ascii (f ++ c ∷ r) (length f) (omega (arith, length-append f (c ∷ r)))
-      (let P : ℕ → Type 0 = λ n. n < 128 in subst P (sym (get_or_at f c r 0 (length f) refl)) h) in
-    (let P : List ℕ → Type 0 = λ x. IsUtf8 x in subst P (take_at f (c ∷ r) (length f) refl) (IsUtf8-take (f ++ c ∷ r) (length f) u at),
-     let P : List ℕ → Type 0 = λ x. IsUtf8 x in subst P (drop_at f (c ∷ r) (length f) refl) (IsUtf8-drop (f ++ c ∷ r) (length f) u at))
+    (let P : ℕ → Type 0 = λ n. n < 128 in subst P (sym (get_or_at f c r 0 (length f) refl)) h) in (
+      let P : List ℕ → Type 0 = λ x. IsUtf8 x in subst P (take_at f (c ∷ r) (length f) refl) (IsUtf8-take (f ++ c ∷ r) (length f) u at),
+      let P : List ℕ → Type 0 = λ x. IsUtf8 x in subst P (drop_at f (c ∷ r) (length f) refl) (IsUtf8-drop (f ++ c ∷ r) (length f) u at),
+    )
 
 pub utf8_behind_first : (c : ℕ) (r : List ℕ) → c < 128 → IsUtf8 (c ∷ r) → IsUtf8 r
 utf8_behind_first c r h u = IsUtf8-drop (c ∷ r) 1 u (IsCharBoundary-after_ascii (c ∷ r) 0 u (omega arith) h)
@@ -26,6 +28,7 @@ until_utf8 stop b f r h s u = parts f r s.stops (let P : List ℕ → Type 0 = �
   where
     is_stop : (x : ℕ) → is_not stop x ≡ false → x ≡ stop
     is_stop x e = grind (arith, nat_tests)
+
     parts : (f r : List ℕ) → Stops (is_not stop) r → IsUtf8 (f ++ r) → IsUtf8 f × IsUtf8 r
     parts f [] s u = (let P : List ℕ → Type 0 = λ x. IsUtf8 x in subst P (append-nil f) u, IsUtf8-nil)
     parts f (x ∷ r) s u = utf8_apart f r x (omega (arith, is_stop x s)) u
@@ -38,6 +41,7 @@ span_utf8 p small b f r s u = (IsUtf8-from_ascii f (ascii f s.all), behind f s.a
     ascii [] a i = omega arith
     ascii (x ∷ f) a zero = small x a.0
     ascii (x ∷ f) a (suc i) = ascii f a.1 i
+
     behind : (f : List ℕ) → AreAll p f → IsUtf8 (f ++ r) → IsUtf8 r
     behind [] a u = u
     behind (x ∷ f) a u = behind f a.1 (utf8_behind_first x (f ++ r) (small x a.0) u)
@@ -95,3 +99,7 @@ instruction_utf8 x rest e u =
     let i : x ≡ e.inside = cc in
     let P : List ℕ → Type 0 = λ l. IsUtf8 l in
     utf8_behind ends.0 rest 62 (omega arith) (subst P (i ∙ ends.1) u)
+
+pub mark_utf8 : (r : List ℕ) → IsUtf8 (239 ∷ 187 ∷ 191 ∷ r) → IsUtf8 r
+unfolding lib.Utf8.encode
+mark_utf8 r u = IsUtf8-past_char (239 ∷ 187 ∷ 191 ∷ r) r 65279 u refl

@@ -118,12 +118,17 @@ abbrev pub body : List ℕ → List ℕ
 body bytes = if has_mark bytes then drop 3 bytes else bytes
 
 abbrev pub body_place : List ℕ → Place
-body_place bytes = if has_mark bytes then place_after first_place (take 3 bytes) else first_place
+body_place bytes = if has_mark bytes then record { line = 1; byte = 4 } else first_place
+
+-- the bytes, which begin at this place, are one element with white space, comments and instructions
+-- beside it
+pub record IsFile (at : Place) (bytes : List ℕ) (e : Elem) : Type 0 where
+  pub ps : List Piece
+  pub end : Place
+  pub reads : Reads at bytes ps end []
+  pub document : IsDocument ps e
 
 -- the bytes are a file of element text with this root element
 pub record Spells (bytes : List ℕ) (e : Elem) : Type 0 where
   pub utf8 : IsUtf8 bytes
-  pub ps : List Piece
-  pub end : Place
-  pub reads : Reads (body_place bytes) (body bytes) ps end []
-  pub document : IsDocument ps e
+  pub file : IsFile (body_place bytes) (body bytes) e

@@ -30,7 +30,7 @@ unfoldable pub numbered : ℕ → ℕ → List ℕ → Option Referred
 numbered base past bytes =
     let digits = leading (is_digit_of base) bytes in
     if nat_lt 0 (length digits) && (begins (59 ∷ []) (drop (length digits) bytes) && scalar (digits_value base digits))
-      then Some (record { char = digits_value base digits; len = past + (length digits + 1) }) else None
+    then Some (record { char = digits_value base digits; len = past + (length digits + 1) }) else None
 
 -- the reference that the bytes behind an ampersand begin with
 unfoldable pub reference : List ℕ → Option Referred

@@ -86,3 +86,9 @@ IsFinished s e = (s.below ≡ []) × (kids : List Elem) × (s.top.kids ≡ kids 
 -- an element is open, or none was read
 abbrev pub IsUnfinished : Stack → Type 0
 IsUnfinished s = (s.below ≡ [] → ⊥) ⊎ (s.top.kids ≡ [])
+
+-- the piece may stand here and opens an element at level 65
+abbrev pub IsTooDeepFor : Stack → Piece → Type 0
+IsTooDeepFor s (opens n a at) = HasRoom s.top s.below × (64 ≤ length s.below)
+IsTooDeepFor s (hollow n a at) = HasRoom s.top s.below × (64 ≤ length s.below)
+IsTooDeepFor s _ = ⊥

@@ -2,7 +2,6 @@ ghost use Rattle.elem_text.specs.declared.error.ElemError.TheVariants.{OutOfMemo
 ghost use Rattle.std.specs.Prelude.{◌≡◌};
 
 use std::alloc::AllocError;
-
 use thiserror::Error;
 use vtr_base::Place;
 

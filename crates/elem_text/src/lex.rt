@@ -1,11 +1,9 @@
 ghost use Rattle.std.specs.Prelude.{◌≡◌};
 ghost use Rattle.elem_text.specs.declared.lex.Flaw.TheVariants.{OutOfMemory};
 
-use std::alloc::AllocError;
-
-use sqlite_items::Items;
-
 use crate::elem::Attr;
+use sqlite_items::Items;
+use std::alloc::AllocError;
 
 /// Why no piece was read.
 #[derive(Clone, Copy, Drop)]

@@ -4,11 +4,10 @@ ghost use Rattle.vtr_base.specs.declared.place.Place.{Place};
 ghost use Rattle.elem_text.specs.Grammar.{IsComment, IsInstruction, IsLex, behind_comment, behind_instruction};
 ghost use Rattle.elem_text.specs.Lexed.{lexed, IsUtf8Lex};
 
-use std::alloc::Global;
-
 use crate::bytes::{byte, until};
 use crate::lex::{Flaw, Lex};
 use crate::tags::{end_tag, ended, start_tag};
+use std::alloc::Global;
 
 /// Whether `-->` stands at `n`.
 fn ends_comment(bytes: &[u8], n: usize) -> bool

@@ -2,11 +2,9 @@ ghost use Rattle.std.specs.Prelude.{◌≡◌, ◌∷◌, ◌++◌, ◌<◌, ◌
 ghost use Rattle.elem_text.specs.Bytes.{IsSpan, Stops, is_not};
 ghost use Rattle.elem_text.specs.References.{begins, is_digit_of, reference, numbered, decoded};
 
-use std::alloc::{AllocError, Global};
-
-use vtr_base::Text;
-
 use crate::bytes::{byte, until};
+use std::alloc::{AllocError, Global};
+use vtr_base::Text;
 
 /// UTF-8 bytes as text.
 fn text_of(bytes: &[u8]) -> &str

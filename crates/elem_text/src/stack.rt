@@ -4,15 +4,13 @@ ghost use Rattle.elem_text.specs.Tree.{opens, closes, hollow, run};
 ghost use Rattle.elem_text.specs.Stack.{stack_of, top_first, HasRoom, MayHold, IsAllowed, next, outside, IsFinished, IsUnfinished};
 ghost use Rattle.elem_text.specs.declared.stack.Refusal.TheVariants.{OutOfMemory};
 
-use std::alloc::{AllocError, Global};
-use std::mem;
-
-use sqlite_items::Items;
-use vtr_base::{Place, Text};
-
 use crate::bytes::white;
 use crate::elem::{Attr, Elem};
 use crate::references::{kept, push_decoded};
+use sqlite_items::Items;
+use std::alloc::{AllocError, Global};
+use std::mem;
+use vtr_base::{Place, Text};
 
 /// An element whose end tag is still to come.
 #[derive(Drop)]
@@ -90,7 +88,13 @@ impl Opened {
     }
 
     /// A start tag.
-    pub fn open(&mut self, alloc: Global, name: &[u8], attrs: Items<Attr>, place: Place) -> Result<(), Refusal>
+    pub fn open(
+        &mut self,
+        alloc: Global,
+        name: &[u8],
+        attrs: Items<Attr>,
+        place: Place,
+    ) -> Result<(), Refusal>
         requires { IsUtf8 name.now }
         ensures ok { OnOk result (IsAllowed (stack_of self.old) (opens name.now attrs place) × (stack_of self.new ≡ next (stack_of self.old) (opens name.now attrs place))) }
         ensures broken { IsErrOf result Refusal.Broken → IsAllowed (stack_of self.old) (opens name.now attrs place) → ⊥ }
@@ -115,7 +119,13 @@ impl Opened {
     }
 
     /// An empty tag.
-    pub fn leaf(&mut self, alloc: Global, name: &[u8], attrs: Items<Attr>, place: Place) -> Result<(), Refusal>
+    pub fn leaf(
+        &mut self,
+        alloc: Global,
+        name: &[u8],
+        attrs: Items<Attr>,
+        place: Place,
+    ) -> Result<(), Refusal>
         requires { IsUtf8 name.now }
         ensures ok { OnOk result (IsAllowed (stack_of self.old) (hollow name.now attrs place) × (stack_of self.new ≡ next (stack_of self.old) (hollow name.now attrs place))) }
         ensures broken { IsErrOf result Refusal.Broken → IsAllowed (stack_of self.old) (hollow name.now attrs place) → ⊥ }
@@ -151,8 +161,20 @@ impl Opened {
             return Err(Refusal::Broken);
         };
         let inner = mem::replace(&mut self.top, outer);
-        let Frame { name, attrs, text, kids, place } = inner;
-        self.top.kids.push(Elem { name, attrs, text, kids, place })?;
+        let Frame {
+            name,
+            attrs,
+            text,
+            kids,
+            place,
+        } = inner;
+        self.top.kids.push(Elem {
+            name,
+            attrs,
+            text,
+            kids,
+            place,
+        })?;
         Ok(())
     }
 

@@ -6,15 +6,13 @@ ghost use Rattle.elem_text.specs.Grammar.{HasName, IsQuote, IsQuoted, IsAttr, At
 ghost use Rattle.elem_text.specs.Lexed.{lexed, IsUtf8Lex};
 ghost use Rattle.elem_text.specs.Next.{IsNext, behind_next};
 
-use std::alloc::{AllocError, Global};
-
-use sqlite_items::Items;
-use vtr_base::Text;
-
 use crate::bytes::{begins_with_letter, byte, until, white, word};
 use crate::elem::Attr;
 use crate::lex::{Flaw, Lex};
 use crate::references::{decode, kept};
+use sqlite_items::Items;
+use std::alloc::{AllocError, Global};
+use vtr_base::Text;
 
 /// Which flaw it is that a byte is missing before `bytes`.
 pub fn ended(bytes: &[u8]) -> Flaw {

@@ -3,7 +3,7 @@ use Rattle.elem_text.proofs.Numbered.{is_lt, is_gt, is_amp, is_quot, is_apos, is
 use Rattle.elem_text.proofs.references.referred.Goals as goal
 
 pub returns-in-Some-clause-exact : goal.returns-in-Some-clause-exact
-returns-in-Some-clause-exact c = is_lt _ _  c.in-Some.ensures.0 c.in-Some.ensures.1
+returns-in-Some-clause-exact c = is_lt _ _ c.in-Some.ensures.0 c.in-Some.ensures.1
 
 pub returns-in-Some-clause-semicolon : goal.returns-in-Some-clause-semicolon
 returns-in-Some-clause-semicolon c = (108 ∷ 116 ∷ [], c.in-Some.ensures.1)

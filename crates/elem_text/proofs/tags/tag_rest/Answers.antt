@@ -8,6 +8,6 @@ returns-in-End-clause-whole c =
 pub attrs-preserved : goal.attrs-preserved
 attrs-preserved c = record {
   reading = rw c.in_ok-push-in-Attr.ensures.ok
-    (reading_more _ _ _ _ _ c.in-Attr.attr c.in-Attr.after c.attrs.invariant.reading c.as_slice.ensures c.in-Attr.is c.in_ok-end.ensures.whole);
+      (reading_more _ _ _ _ _ c.in-Attr.attr c.in-Attr.after c.attrs.invariant.reading c.as_slice.ensures c.in-Attr.is c.in_ok-end.ensures.whole);
   utf8 = rw c.in-Attr.is at c.in_ok-end.ensures.utf8;
 }
