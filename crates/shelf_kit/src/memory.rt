@@ -1,7 +1,7 @@
 ghost use Rattle.std.specs.Prelude.{◌≡◌, ◌≤◌, ◌<◌, ◌+◌, ◌⊎◌, ◌↔◌, [], ◌++◌, length, Some, None, OnOk, OnErr, IfOk, IsErr, IsErrOf, Contains, vec_len, vec_capacity};
-ghost use Rattle.vtr_base.specs.Outside.{file, Rose, Told, IsHeld, IsHeldLonger, written, WrittenPart, BeginsPart, AppendsPart, appended, begun};
+ghost use Rattle.vtr_base.specs.Outside.{file, with_file, bytes_of, Rose, IsHeld, IsHeldLonger, AppendsPart};
 ghost use Rattle.shelf_kit.specs.Held.{held};
-ghost use Rattle.shelf_kit.specs.Counts.{counted};
+ghost use Rattle.shelf_kit.specs.Calls.{TakesCall, TakesPut};
 
 use crate::file_map::FileMap;
 use crate::plan::starts_failing;
@@ -39,7 +39,21 @@ impl Shelf for MemShelf {
 
     ghost faults = { λ s. s.faults };
 
-    fn fetch(&mut self, name: &str, room: u64, into: &mut Vec<u8>) -> Result<(), ShelfError> {
+    fn fetch(&mut self, name: &str, room: u64, into: &mut Vec<u8>) -> Result<(), ShelfError>
+        ensures call { TakesCall self.old self.new result }
+        ensures held { self.new.files ≡ self.old.files }
+        ensures count { self.old.faults ≤ self.new.faults }
+        ensures room { OnOk result (length into.new.items ≤ room) }
+        ensures found { OnOk result (file self.old.files name.now ≡ Some into.new.items) }
+        ensures nothing { OnErr result (into.new.items ≡ []) }
+        ensures failed { IsErrOf result ShelfError.Failed → Rose self.old.faults self.new.faults }
+        ensures missing { IsErrOf result ShelfError.Missing → file self.old.files name.now ≡ None }
+        ensures too_long { IsErrOf result ShelfError.TooLong → IsHeldLonger self.old.files name.now room }
+
+        // Want of memory is no answer where the file isn't held, or is too long.
+        ensures unheld { file self.old.files name.now ≡ None → IsErrOf result ShelfError.Missing ⊎ IsErrOf result ShelfError.Failed }
+        ensures longer { IsHeldLonger self.old.files name.now room → IsErrOf result ShelfError.TooLong ⊎ IsErrOf result ShelfError.Failed }
+    {
         into.clear();
         if starts_failing(self.fails.as_slice(), &mut self.calls, &mut self.faults) {
             return Err(ShelfError::Failed);
@@ -47,7 +61,15 @@ impl Shelf for MemShelf {
         self.files.fetch(name, room, into)
     }
 
-    fn begin(&mut self, name: &str) -> Result<(), ShelfError> {
+    fn begin(&mut self, name: &str) -> Result<(), ShelfError>
+        ensures call { TakesCall self.old self.new result }
+        ensures count { self.old.faults ≤ self.new.faults }
+        ensures ok { OnOk result (self.new.files ≡ with_file self.old.files name.now []) }
+        ensures err { OnErr result (self.new.files ≡ self.old.files) }
+        ensures failed { IsErrOf result ShelfError.Failed → Rose self.old.faults self.new.faults }
+        ensures never_missing { IsErrOf result ShelfError.Missing → ⊥ }
+        ensures never_long { IsErrOf result ShelfError.TooLong → ⊥ }
+    {
         if starts_failing(self.fails.as_slice(), &mut self.calls, &mut self.faults) {
             return Err(ShelfError::Failed);
         }
@@ -57,7 +79,16 @@ impl Shelf for MemShelf {
         }
     }
 
-    fn append(&mut self, name: &str, piece: &[u8]) -> Result<(), ShelfError> {
+    fn append(&mut self, name: &str, piece: &[u8]) -> Result<(), ShelfError>
+        requires { IsHeld self.old.files name.now }
+        ensures call { TakesCall self.old self.new result }
+        ensures count { self.old.faults ≤ self.new.faults }
+        ensures ok { OnOk result (self.new.files ≡ with_file self.old.files name.now (bytes_of (file self.old.files name.now) ++ piece.now)) }
+        ensures err { OnErr result (self.new.files ≡ self.old.files) }
+        ensures failed { IsErrOf result ShelfError.Failed → Rose self.old.faults self.new.faults × AppendsPart name.now piece.now (Some self.old.files) (Some self.new.files) }
+        ensures never_missing { IsErrOf result ShelfError.Missing → ⊥ }
+        ensures never_long { IsErrOf result ShelfError.TooLong → ⊥ }
+    {
         if starts_failing(self.fails.as_slice(), &mut self.calls, &mut self.faults) {
             return Err(ShelfError::Failed);
         }
@@ -102,7 +133,12 @@ impl Sink for MemSink {
 
     ghost faults = { λ s. s.faults };
 
-    fn put(&mut self, piece: &[u8]) -> Result<(), SinkFailed> {
+    fn put(&mut self, piece: &[u8]) -> Result<(), SinkFailed>
+        ensures taken { TakesPut self.old self.new piece.now result }
+        ensures count { self.old.faults ≤ self.new.faults }
+        ensures ok { OnOk result (self.new.bytes.items ≡ self.old.bytes.items ++ piece.now) }
+        ensures failed { OnErr result (Rose self.old.faults self.new.faults) }
+    {
         if starts_failing(self.fails.as_slice(), &mut self.calls, &mut self.faults) {
             return Err(SinkFailed);
         }

@@ -16,13 +16,11 @@ pub struct RealShelf<R> {
 }
 
 impl<R: Files> RealShelf<R> {
-    pub fn new(runtime: R) -> RealShelf<R> {
+    pub fn new(runtime: R) -> RealShelf<R>
+        ensures runtime { result.runtime ≡ runtime }
+        ensures faults { result.faults ≡ 0 }
+    {
         RealShelf { runtime, faults: 0 }
-    }
-
-    fn fault(&mut self) -> ShelfError {
-        self.faults = self.faults.saturating_add(1);
-        ShelfError::Failed
     }
 }
 
@@ -37,16 +35,13 @@ impl<R: Files> Shelf for RealShelf<R> {
             Ok(mut file) => read_to_end(&mut file, room, into),
             Err(error) => Err(refusal(&error)),
         };
-        match outcome {
-            Ok(()) => Ok(()),
-            Err(error) => {
-                into.clear();
-                if error == ShelfError::Failed {
-                    self.faults = self.faults.saturating_add(1);
-                }
-                Err(error)
+        if let Err(error) = outcome {
+            into.clear();
+            if error == ShelfError::Failed {
+                self.faults = self.faults.saturating_add(1);
             }
         }
+        outcome
     }
 
     fn begin(&mut self, name: &str) -> Result<(), ShelfError> {
@@ -82,7 +77,10 @@ pub struct RealSink<R> {
 }
 
 impl<R: Print> RealSink<R> {
-    pub fn new(runtime: R) -> RealSink<R> {
+    pub fn new(runtime: R) -> RealSink<R>
+        ensures runtime { result.runtime ≡ runtime }
+        ensures faults { result.faults ≡ 0 }
+    {
         RealSink { runtime, faults: 0 }
     }
 }
