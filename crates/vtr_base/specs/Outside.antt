@@ -1,5 +1,5 @@
 -- What shelves and sinks hold, and how a call changes it.
-use Rattle.std.specs.Prelude.{◌≡◌, ◌<◌, ◌⊎◌, ℕ, List, [], ◌++◌, Option, Some, None, IfSome, IsSome, length}
+use Rattle.std.specs.Prelude.{◌≡◌, ◌<◌, ◌≤◌, ◌⊎◌, ℕ, List, [], ◌++◌, Option, Some, None, IfSome, IsSome, length}
 use Rattle.std.specs.Ordering.{nat_cmp}
 use Rattle.std.specs.Cmp.Lexicographic.{slice_cmp}
 use Rattle.std.specs.FinMap as map
@@ -28,9 +28,10 @@ pub record Beside : Type 0 where
   pub name : List ℕ
   pub others : Option Files
 
--- a count of faults rose, or stands at its last value
+-- a count of faults rose, or stands where no counter goes on: a counter's last value, or beyond,
+-- where several counts are summed
 abbrev pub Rose : ℕ → ℕ → Type 0
-Rose old new = (old < new) ⊎ (new ≡ 18446744073709551615)
+Rose old new = (old < new) ⊎ (18446744073709551615 ≤ new)
 
 -- where files are told, this is said of them
 abbrev pub Told : Option Files → (Files → Type 0) → Type 0
