@@ -14,7 +14,7 @@ use Rattle.vtr_base.specs.Outside.{Files, file, with_file, bytes_of, IsHeld, App
 use Rattle.shelf_kit.specs.Held.{held}
 
 -- two shelves that answer alike hold the same files
-same_files : (m n : Files) → ((q : List ℕ) → file m q ≡ file n q) → m ≡ n
+pub same_files : (m n : Files) → ((q : List ℕ) → file m q ≡ file n q) → m ≡ n
 same_files m n alike = same_map nat_list_cmp_total (slice_cmp-IsAntisymmetric nat_cmp-IsAntisymmetric) m n alike
 
 -- a file that is held with these bytes, held with them again
@@ -38,7 +38,7 @@ pub nothing_appended : (m : Files) (name piece : List ℕ) → IsHeld m name →
 nothing_appended m name piece there =
     elim (file m name) as (λ o. file m name ≡ o → IsSome o → AppendsPart name piece (Some m) (Some m)) [
       | Some bytes ↦ λ e _. ([], piece, refl, ap Some (sym (with_file_same m name (bytes_of (file m name) ++ []) (e ∙ ap Some (sym (append-nil _ ∙ ap bytes_of e))))))
-      | None ↦ λ _ no. absurd (cc)
+      | None ↦ λ _ some. absurd (cc)
     ] refl there
 
 changed : {V W : Type 0} (f : V → W) (b : Bool) (v : V) (old : Option V) → option_map f (cond b (Some v) old) ≡ cond b (Some (f v)) (option_map f old)

@@ -1,6 +1,6 @@
 ghost use Rattle.std.specs.Prelude.{◌≡◌, ◌≤◌, ◌<◌, ◌+◌, ◌↔◌, ℕ, Some, None, OnOk, OnErr, IsTrue};
-ghost use Rattle.vtr_base.specs.Outside.{Files, Rose, Told, IsHeld, AppendsPart, appended};
-ghost use Rattle.shelf_kit.specs.Through.{bytes_at, others_than};
+ghost use Rattle.vtr_base.specs.Outside.{Files, Rose, Told, IsHeld, AppendsPart, WrittenPart, appended, written};
+ghost use Rattle.shelf_kit.specs.OneFile.{bytes_at, beside_of};
 
 use vtr_base::{Shelf, ShelfError, Sink, SinkFailed};
 
@@ -40,11 +40,30 @@ impl<'s, S: Shelf> ShelfSink<'s, S> {
 impl<'s, S: Shelf> Sink for ShelfSink<'s, S> {
     ghost bytes = { λ s. bytes_at s.name.now (S.files s.shelf.now) };
 
-    ghost beside = { λ s. Some (record { name = s.name.now; others = others_than s.name.now (S.files s.shelf.now) }) };
+    ghost beside = { λ s. beside_of s.name.now (S.files s.shelf.now) s.shelf.ghost_name };
 
     ghost faults = { λ s. S.faults s.shelf.now + s.short_puts };
 
-    fn put(&mut self, piece: &[u8]) -> Result<(), SinkFailed> {
+    fn put(&mut self, piece: &[u8]) -> Result<(), SinkFailed>
+        // What the shelf holds: its put is one append.
+        ensures same_reference { self.new.shelf.ghost_name ≡ self.old.shelf.ghost_name }
+        ensures name { self.new.name ≡ self.old.name }
+        ensures appended { OnOk result (S.files self.new.shelf.now ≡ appended self.old.name.now piece.now (S.files self.old.shelf.now)) }
+        ensures appended_part { OnErr result (AppendsPart self.old.name.now piece.now (S.files self.old.shelf.now) (S.files self.new.shelf.now)) }
+
+        // What the sink tells.
+        ensures beside { beside_of self.new.name.now (S.files self.new.shelf.now) self.new.shelf.ghost_name ≡ beside_of self.old.name.now (S.files self.old.shelf.now) self.old.shelf.ghost_name }
+        ensures ok { OnOk result (bytes_at self.new.name.now (S.files self.new.shelf.now) ≡ written piece.now (bytes_at self.old.name.now (S.files self.old.shelf.now))) }
+        ensures part { OnErr result (WrittenPart piece.now (bytes_at self.old.name.now (S.files self.old.shelf.now)) (bytes_at self.new.name.now (S.files self.new.shelf.now))) }
+
+        // Whose fault a failure is.
+        ensures count { S.faults self.old.shelf.now + self.old.short_puts ≤ S.faults self.new.shelf.now + self.new.short_puts }
+        ensures shelf_count { S.faults self.old.shelf.now ≤ S.faults self.new.shelf.now }
+        ensures short { self.old.short_puts ≤ self.new.short_puts }
+        ensures failed { OnErr result (Rose (S.faults self.old.shelf.now + self.old.short_puts) (S.faults self.new.shelf.now + self.new.short_puts)) }
+        ensures outside { OnErr result (self.new.short_puts ≡ 0 → Rose (S.faults self.old.shelf.now) (S.faults self.new.shelf.now)) }
+        ensures calm { OnOk result (self.new.short_puts ≡ self.old.short_puts) }
+    {
         match self.shelf.append(self.name, piece) {
             Ok(()) => Ok(()),
             Err(error) => {
@@ -55,4 +74,20 @@ impl<'s, S: Shelf> Sink for ShelfSink<'s, S> {
             }
         }
     }
+}
+
+fn put_it<K: Sink>(out: &mut K, piece: &[u8]) -> Result<(), SinkFailed>
+    ensures beside { K.beside out.new ≡ K.beside out.old }
+    ensures ok { OnOk result (K.bytes out.new ≡ written piece.now (K.bytes out.old)) }
+    ensures failed { OnErr result (Rose (K.faults out.old) (K.faults out.new)) }
+{
+    out.put(piece)
+}
+
+fn save<S: Shelf>(shelf: &mut S, name: &str, piece: &[u8]) -> bool
+    requires { Told (S.files shelf.old) (λ m. IsHeld m name.now) }
+    ensures { IsTrue result → bytes_at name.now (S.files shelf.new) ≡ written piece.now (bytes_at name.now (S.files shelf.old)) }
+{
+    let mut sink = ShelfSink::on(shelf, name);
+    put_it(&mut sink, piece).is_ok()
 }
