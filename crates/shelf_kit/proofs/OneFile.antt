@@ -1,12 +1,13 @@
 -- What an append to one file of a shelf means for that file's bytes and for the other files.
 use Rattle.std.proofs.Common.{◌≡◌, ℕ, Bool, true, false, cond, List, [], ◌++◌, Option, Some, None, Err, IsErrOf, IsSome, refl, sym, ap, subst, ◌∙◌, append-nil}
-use Rattle.std.specs.Ordering.{nat_cmp, eq_by_cmp}
+use Rattle.std.specs.declared.cmp.Ordering.TheVariants.{Less, Equal, Greater}
+use Rattle.std.specs.Ordering.{nat_cmp, is_eq, eq_by_cmp}
 use Rattle.std.specs.Cmp.{eq_by_cmp_equiv}
 use Rattle.std.specs.Cmp.Lexicographic.{slice_cmp, nat_list_cmp_total}
-use Rattle.std.specs.FinMap.{get-insert, get-remove}
+use Rattle.std.specs.FinMap.{remove, get_tied, get-insert, get-remove}
 use Rattle.vtr_base.specs.declared.outside.ShelfError.{ShelfError}
 use Rattle.vtr_base.specs.declared.outside.ShelfError.TheVariants.{Missing, Failed, TooLong, OutOfMemory}
-use Rattle.vtr_base.specs.Outside.{Files, file, with_file, bytes_of, IsHeld, Told, Rose, appended, written, AppendsPart, WrittenPart}
+use Rattle.vtr_base.specs.Outside.{Files, Beside, file, with_file, bytes_of, IsHeld, Told, Rose, appended, written, AppendsPart, WrittenPart}
 use Rattle.shelf_kit.specs.OneFile.{bytes_at, others_than, beside_of}
 use Rattle.shelf_kit.proofs.Files.{same_files, nothing_appended}
 
@@ -58,7 +59,7 @@ pub part_written : (name piece : List ℕ) (old new : Option Files) → ((m : Fi
     → WrittenPart piece (bytes_at name old) (bytes_at name new)
 part_written name piece old new held p = (p.0, p.1, p.2, bytes_appended name p.0 old new held p.3)
 
-told_held : (name : List ℕ) (old : Option Files) → Told old (λ m. IsHeld m name) → (m : Files) → old ≡ Some m → IsHeld m name
+pub told_held : (name : List ℕ) (old : Option Files) → Told old (λ m. IsHeld m name) → (m : Files) → old ≡ Some m → IsHeld m name
 told_held name None told m e = absurd (cc)
 told_held name (Some f) told m e = let same : f ≡ m = cc in subst (λ k. IsHeld k name) same told
 
@@ -87,3 +88,45 @@ err_rose Failed name piece old new f f' not failed missing long = (failed refl).
 err_rose OutOfMemory name piece old new f f' not failed missing long = absurd (not refl)
 err_rose Missing name piece old new f f' not failed missing long = absurd (missing refl)
 err_rose TooLong name piece old new f f' not failed missing long = absurd (long refl)
+
+with_new_bytes : (m n : Files) (name bytes : List ℕ) → remove n name ≡ remove m name → file n name ≡ Some bytes → n ≡ with_file m name bytes
+with_new_bytes m n name bytes others there = same_files _ _ (λ q.
+    sym (get-insert nat_list_cmp_total m name bytes q
+    ∙ elim (slice_cmp nat_cmp q name) as (λ r. slice_cmp nat_cmp q name ≡ r → cond (is_eq r) None (file n q) ≡ cond (is_eq r) None (file m q) → cond (is_eq r) (Some bytes) (file m q) ≡ file n q) [
+      | Less ↦ λ _ same. sym same
+      | Equal ↦ λ tie _. sym there ∙ get_tied nat_list_cmp_total n q name tie
+      | Greater ↦ λ _ same. sym same
+    ] refl (sym (get-remove nat_list_cmp_total n name q) ∙ ap (λ m. file m q) others ∙ get-remove nat_list_cmp_total m name q)))
+
+unwritten : (piece : List ℕ) (o : Option (List ℕ)) → IsSome o → written piece o ≡ Some (bytes_of o ++ piece)
+unwritten piece o there = sym (written_held piece o there)
+
+abbrev others_told : Option Beside → Option Files
+others_told None = None
+others_told (Some b) = b.others
+
+abbrev name_told : Option Beside → List ℕ
+name_told None = []
+name_told (Some b) = b.name
+
+same_name_appended : (name piece : List ℕ) (old new : Option Files) → ((m : Files) → old ≡ Some m → IsHeld m name)
+    → others_than name new ≡ others_than name old → bytes_at name new ≡ written piece (bytes_at name old) → new ≡ appended name piece old
+same_name_appended name piece None None held others bytes = refl
+same_name_appended name piece None (Some n) held others bytes = absurd (cc)
+same_name_appended name piece (Some m) None held others bytes = absurd (cc)
+same_name_appended name piece (Some m) (Some n) held others bytes =
+    let same : remove n name ≡ remove m name = cc in
+    ap Some (with_new_bytes m n name _ same (bytes ∙ unwritten piece (file m name) (held m refl)))
+
+-- what a sink over one file tells says what the shelf holds: its other files stayed, and the bytes
+-- of this one grew by the piece
+pub told_appended : (name name' piece : List ℕ) (old new : Option Files) (loan loan' : ℕ) → ((m : Files) → old ≡ Some m → IsHeld m name)
+    → beside_of name' new loan' ≡ beside_of name old loan → bytes_at name' new ≡ written piece (bytes_at name old) → new ≡ appended name piece old
+told_appended name name' piece old new loan loan' held beside bytes =
+    let same : name' ≡ name = ap name_told beside in
+    same_name_appended name piece old new held (ap (λ k. others_than k new) (sym same) ∙ ap others_told beside) (ap (λ k. bytes_at k new) (sym same) ∙ bytes)
+
+-- the same after a failed put
+pub told_part : (name name' piece : List ℕ) (old new : Option Files) (loan loan' : ℕ) → ((m : Files) → old ≡ Some m → IsHeld m name)
+    → beside_of name' new loan' ≡ beside_of name old loan → WrittenPart piece (bytes_at name old) (bytes_at name' new) → AppendsPart name piece old new
+told_part name name' piece old new loan loan' held beside part = (part.0, part.1, part.2, told_appended name name' part.0 old new loan loan' held beside part.3)

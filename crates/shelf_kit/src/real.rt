@@ -12,7 +12,7 @@ const CHUNK: usize = 16_384;
 #[derive(Drop)]
 pub struct RealShelf<R> {
     runtime: R,
-    faults: u64,
+    pub(crate) faults: u64,
 }
 
 impl<R: Files> RealShelf<R> {
@@ -73,7 +73,7 @@ impl<R: Files> Shelf for RealShelf<R> {
 #[derive(Drop)]
 pub struct RealSink<R> {
     runtime: R,
-    faults: u64,
+    pub(crate) faults: u64,
 }
 
 impl<R: Print> RealSink<R> {

@@ -75,19 +75,3 @@ impl<'s, S: Shelf> Sink for ShelfSink<'s, S> {
         }
     }
 }
-
-fn put_it<K: Sink>(out: &mut K, piece: &[u8]) -> Result<(), SinkFailed>
-    ensures beside { K.beside out.new ≡ K.beside out.old }
-    ensures ok { OnOk result (K.bytes out.new ≡ written piece.now (K.bytes out.old)) }
-    ensures failed { OnErr result (Rose (K.faults out.old) (K.faults out.new)) }
-{
-    out.put(piece)
-}
-
-fn save<S: Shelf>(shelf: &mut S, name: &str, piece: &[u8]) -> bool
-    requires { Told (S.files shelf.old) (λ m. IsHeld m name.now) }
-    ensures { IsTrue result → bytes_at name.now (S.files shelf.new) ≡ written piece.now (bytes_at name.now (S.files shelf.old)) }
-{
-    let mut sink = ShelfSink::on(shelf, name);
-    put_it(&mut sink, piece).is_ok()
-}
