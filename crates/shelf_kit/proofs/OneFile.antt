@@ -7,13 +7,22 @@ use Rattle.std.specs.Cmp.Lexicographic.{slice_cmp, nat_list_cmp_total}
 use Rattle.std.specs.FinMap.{remove, get_tied, get-insert, get-remove}
 use Rattle.vtr_base.specs.declared.outside.ShelfError.{ShelfError}
 use Rattle.vtr_base.specs.declared.outside.ShelfError.TheVariants.{Missing, Failed, TooLong, OutOfMemory}
-use Rattle.vtr_base.specs.Outside.{Files, Beside, file, with_file, bytes_of, IsHeld, Told, Rose, appended, written, AppendsPart, WrittenPart}
+use Rattle.vtr_base.specs.Outside.{Files, Beside, file, with_file, bytes_of, IsHeld, Told, Rose, begun, appended, written, AppendsPart, WrittenPart}
 use Rattle.shelf_kit.specs.OneFile.{bytes_at, others_than, beside_of}
 use Rattle.shelf_kit.proofs.Files.{same_files, nothing_appended}
 
 -- the file that was written has what was written
 pub file_with_file : (m : Files) (name bytes : List ℕ) → file (with_file m name bytes) name ≡ Some bytes
 file_with_file m name bytes = get-insert nat_list_cmp_total m name bytes name ∙ ap (λ b. cond b (Some bytes) (file m name)) ((eq_by_cmp_equiv nat_list_cmp_total).refl name)
+
+-- and is held
+pub with_file_held : (m n : Files) (name bytes : List ℕ) → n ≡ with_file m name bytes → IsHeld n name
+with_file_held m n name bytes e = subst (λ k. IsHeld k name) (sym e) (subst IsSome (sym (file_with_file m name bytes)) refl)
+
+-- a file that was begun is held
+pub begun_held : (name : List ℕ) (old new : Option Files) → new ≡ begun name old → Told new (λ m. IsHeld m name)
+begun_held name None new e = subst (λ o. Told o (λ m. IsHeld m name)) (sym e) tt
+begun_held name (Some m) new e = subst (λ o. Told o (λ m. IsHeld m name)) (sym e) (with_file_held m _ name [] refl)
 
 covered : {V : Type 0} (b : Bool) (v : V) (old : Option V) → cond b None (cond b (Some v) old) ≡ cond b None old
 covered true v old = refl
@@ -37,8 +46,8 @@ beside_appended name piece old new loan e = ap (λ others. Some (record { name =
 pub held_appended : (name piece : List ℕ) (old new : Option Files) → new ≡ appended name piece old → (m : Files) → new ≡ Some m → IsHeld m name
 held_appended name piece None new e m is = absurd (cc)
 held_appended name piece (Some f) new e m is =
-    let same : with_file f name (bytes_of (file f name) ++ piece) ≡ m = cc in
-    subst (λ k. IsHeld k name) same (subst IsSome (sym (file_with_file f name _)) refl)
+    let same : m ≡ with_file f name (bytes_of (file f name) ++ piece) = cc in
+    with_file_held f m name _ same
 
 written_held : (piece : List ℕ) (o : Option (List ℕ)) → IsSome o → Some (bytes_of o ++ piece) ≡ written piece o
 written_held piece (Some b) there = refl
