@@ -1,14 +1,12 @@
 -- A programming of one block type: a finite map from its sites to choices. A site is the mode of an
 -- instance, or a pin in one mode; a site without a choice is off.
-use Rattle.std.specs.Prelude.{◌≡◌, ◌<◌, ℕ, List, Option, Some, None, length, slice_get}
+use Rattle.std.specs.Prelude.{◌≡◌, ℕ, Option, Some, IsSome, slice_get, refl}
+use Rattle.std.specs.Coded.{Coded, code_by, coded×, coded_ℕ}
 use Rattle.std.specs.Ordering.{nat_cmp, ordering_then}
 use Rattle.std.specs.declared.cmp.Ordering.{Ordering}
 use Rattle.std.specs.FinMap as map
-use Rattle.arch_types.specs.declared.block.PbType.{PbType}
-use Rattle.arch_types.specs.Tree.{modes_of}
-use Rattle.arch_types.specs.Address.{Address, at}
 use Rattle.pb_expand.specs.declared.number.Edge.{Edge}
-use Rattle.pb_expand.specs.Graph.{Graph}
+use Rattle.pb_expand.specs.Graph.{Graph, mode_at}
 
 -- a pin in one mode: by the pin, then by the mode
 abbrev pub site_cmp : ℕ × ℕ → ℕ × ℕ → Ordering
@@ -18,6 +16,16 @@ site_cmp x y = ordering_then (nat_cmp x.0 y.0) (nat_cmp x.1 y.1)
 pub record Choices : Type 0 where
   pub modes : map.FinMap nat_cmp ℕ
   pub picks : map.FinMap site_cmp ℕ
+
+abbrev pub choices_at : map.FinMap nat_cmp ℕ → map.FinMap site_cmp ℕ → Choices
+choices_at modes picks = record { modes = modes; picks = picks }
+
+-- choices are stored as the pair of the two maps
+abbrev pub choices_code : Coded Choices
+choices_code =
+    code_by (map.FinMap nat_cmp ℕ × map.FinMap site_cmp ℕ)
+      (coded× (map.code coded_ℕ coded_ℕ) (map.code (coded× coded_ℕ coded_ℕ) coded_ℕ))
+      (λ c. (c.modes, c.picks)) (λ p. record { modes = p.0; picks = p.1 }) (λ _. refl)
 
 abbrev pub no_choices : Choices
 no_choices = record { modes = map.empty; picks = map.empty }
@@ -35,12 +43,8 @@ abbrev pub with_pick : Choices → ℕ → ℕ → ℕ → Choices
 with_pick c pin mode edge = record { modes = c.modes; picks = map.insert c.picks (pin, mode) edge }
 
 -- the choice names what is there: a mode of the instance
-pub record IsModeOf (g : Graph) (pb mode : ℕ) : Type 0 where
-  pub address : Address
-  pub is_instance : slice_get g.instances pb ≡ Some address
-  pub block : PbType
-  pub is_block : at g.root address ≡ Some block
-  pub inside : mode < length (modes_of block.kind)
+abbrev pub IsModeOf : Graph → ℕ → ℕ → Type 0
+IsModeOf g pb mode = IsSome (mode_at g pb mode)
 
 -- the choice names what is there: an edge into the pin in that mode
 pub record IsEdgeInto (g : Graph) (pin mode number : ℕ) : Type 0 where

@@ -2,5 +2,14 @@
 //! and where the chosen edges lead back to.
 #![tactic(auto)]
 
+mod back;
 mod lines;
+mod live;
+mod names;
+mod prog;
+
+pub use back::follow;
 pub use lines::next_line;
+pub use live::is_live;
+pub use names::{put_instance, put_pin};
+pub use prog::Prog;

@@ -1,0 +1,4 @@
+pub mod Maps
+pub mod Climbs
+pub mod Owners
+pub mod Written
