@@ -3,6 +3,18 @@
 //! reads back.
 #![tactic(auto)]
 
+mod bytes;
 mod elem;
+mod error;
+mod lex;
+mod pieces;
+mod reader;
+mod references;
+mod stack;
+mod tags;
+#[cfg(test)]
+mod tests;
 
 pub use elem::{Attr, Elem};
+pub use error::ElemError;
+pub use reader::read_elems;
