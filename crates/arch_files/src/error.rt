@@ -1,6 +1,7 @@
 ghost use Rattle.std.specs.Prelude.{◌≡◌};
 ghost use Rattle.arch_files.specs.declared.error.ArchError.TheVariants.{OutOfMemory};
 
+use elem_text::ElemError;
 use std::alloc::{AllocError, AllocFailed};
 use thiserror::Error;
 
@@ -27,5 +28,15 @@ impl<T: Drop> From<AllocFailed<T>> for ArchError {
 
     fn from(_e: AllocFailed<T>) -> ArchError {
         ArchError::OutOfMemory
+    }
+}
+
+/// A file that is no element, or an element too deep, is of no form that is read.
+impl From<ElemError> for ArchError {
+    fn from(e: ElemError) -> ArchError {
+        match e {
+            ElemError::NotUtf8 | ElemError::Deep | ElemError::Broken { .. } => ArchError::NotBuilt,
+            ElemError::OutOfMemory => ArchError::OutOfMemory,
+        }
     }
 }

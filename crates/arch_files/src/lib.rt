@@ -12,4 +12,4 @@ mod port;
 mod root;
 
 pub use error::ArchError;
-pub use root::arch_of;
+pub use root::{arch_of, read_arch};

@@ -1,11 +1,11 @@
 ghost use Rattle.std.specs.Prelude.{[], ◌∷◌, IfOk, MatchOption};
-ghost use Rattle.arch_files.specs.FirstForm.{Holds, SaysArch};
+ghost use Rattle.arch_files.specs.FirstForm.{Holds, SaysArch, SpellsArch};
 
 use crate::ArchError;
 use crate::attr::children;
 use crate::block::read_block;
 use arch_types::Arch;
-use elem_text::Elem;
+use elem_text::{Elem, read_elems};
 use sqlite_items::Items;
 use std::alloc::Global;
 
@@ -33,4 +33,12 @@ pub fn arch_of(alloc: Global, root: &Elem) -> Result<Arch, ArchError>
         layouts: Items::new(alloc),
         blocks,
     })
+}
+
+/// Reads an architecture file.
+pub fn read_arch(alloc: Global, bytes: &[u8]) -> Result<Arch, ArchError>
+    ensures { IfOk result (λ a. SpellsArch bytes.now a) }
+{
+    let root = read_elems(alloc, bytes)?;
+    arch_of(alloc, &root)
 }
