@@ -1,5 +1,5 @@
 -- Attributes of an element, and numbers that they hold.
-use Rattle.std.specs.Prelude.{◌≡◌, ◌⊎◌, ℕ, List, [], ◌∷◌}
+use Rattle.std.specs.Prelude.{◌≡◌, ◌≤◌, ◌⊎◌, ℕ, List, [], ◌∷◌}
 use Rattle.std.specs.Str.Parse.{IsNumeral, digits_value}
 use Rattle.vtr_base.specs.Lists.{Has}
 use Rattle.elem_text.specs.declared.elem.Attr.{Attr}
@@ -20,6 +20,12 @@ LacksAttribute e name = (value : List ℕ) → HasAttribute e name value → ⊥
 pub record SpellsNumber (text : List ℕ) (n : ℕ) : Type 0 where
   pub digits : IsNumeral 10 text
   pub value : digits_value 10 text ≡ n
+
+-- the digits spell a number of pins
+pub record IsWidth (text : List ℕ) (n : ℕ) : Type 0 where
+  pub spells : SpellsNumber text n
+  pub some : 1 ≤ n
+  pub few : n ≤ 65536
 
 -- the attribute holds the number, or isn't there and the number is the one that stands for it
 abbrev pub HasNumberOr : Elem → List ℕ → ℕ → ℕ → Type 0

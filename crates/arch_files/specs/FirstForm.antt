@@ -18,7 +18,7 @@ use Rattle.arch_types.specs.declared.block.InterKind.TheVariants.{Direct, Comple
 use Rattle.arch_types.specs.Tree.{name_of_mode, kids_of, inters_of}
 use Rattle.elem_text.specs.declared.elem.Elem.{Elem, out-Elem}
 use Rattle.elem_text.specs.Grammar.{Spells}
-use Rattle.arch_files.specs.Attributes.{HasAttribute, HasNumberOr, SpellsNumber, Each}
+use Rattle.arch_files.specs.Attributes.{HasAttribute, LacksAttribute, HasNumberOr, SpellsNumber, Each}
 use Rattle.arch_files.specs.Names.{IsPlainName, IsDarkName, AllDiffer}
 
 -- the element has this name, these children, and no text but white space
@@ -26,6 +26,10 @@ pub record Holds (e : Elem) (name : List ℕ) (kids : List Elem) : Type 0 where
   pub is : (out-Elem e).name ≡ name
   pub inside : (out-Elem e).kids ≡ kids
   pub white : AllPass is_white (out-Elem e).text
+
+-- the element has another name, or text beside its children
+abbrev pub HoldsNone : Elem → List ℕ → Type 0
+HoldsNone e name = (kids : List Elem) → Holds e name kids → ⊥
 
 abbrev pub side_name : Side → List ℕ
 side_name Input = codes "input"
@@ -46,11 +50,16 @@ pub record IsPort (e : Elem) (p : Port) : Type 0 where
 abbrev pub port_names : List Port → List (List ℕ)
 port_names ports = map (λ p. p.name) ports
 
+-- an input port of at most 8 pins, and an output port of one pin
+pub record IsLutPair (input output : Port) : Type 0 where
+  pub leads_in : input.side ≡ Input
+  pub leads_out : output.side ≡ Output
+  pub few : input.width ≤ 8
+  pub one : output.width ≡ 1
+
 -- one input port of at most 8 pins and one output port of one pin, in either order
 abbrev pub AreLutPorts : List Port → Type 0
-AreLutPorts ports =
-    (i o : Port) × (i.side ≡ Input) × (o.side ≡ Output) × (i.width ≤ 8) × (o.width ≡ 1)
-    × ((ports ≡ i ∷ o ∷ []) ⊎ (ports ≡ o ∷ i ∷ []))
+AreLutPorts ports = (i o : Port) × IsLutPair i o × ((ports ≡ i ∷ o ∷ []) ⊎ (ports ≡ o ∷ i ∷ []))
 
 -- a leaf with `blif_model=".names"`, of which its parent has one
 pub record IsLut (e : Elem) (p : PbType) : Type 0 where
@@ -74,6 +83,7 @@ inter_name Mux = codes "mux"
 
 -- `direct` or `mux`, with `name`, `input` and `output` and nothing in it
 pub record IsInter (e : Elem) (i : Inter) : Type 0 where
+  pub kind : (i.kind ≡ Complete) → ⊥
   pub holds : Holds e (inter_name i.kind) []
   pub name : HasAttribute e (codes "name") i.name
   pub dark : IsDarkName i.name
@@ -90,7 +100,7 @@ pub record IsImpliedMode (leaves : List Elem) (interconnect : Elem) (m : Mode) :
   pub holds : Holds interconnect (codes "interconnect") inters
   pub each_inter : Each IsInter inters (inters_of m)
 
--- a block type: its ports, then its leaves, then its interconnect
+-- a block type, which has no model: its ports, then its leaves, then its interconnect
 pub record IsBlock (e : Elem) (p : PbType) : Type 0 where
   pub ports : List Elem
   pub leaves : List Elem
@@ -99,6 +109,7 @@ pub record IsBlock (e : Elem) (p : PbType) : Type 0 where
   pub holds : Holds e (codes "pb_type") (ports ++ (leaves ++ interconnect ∷ []))
   pub name : HasAttribute e (codes "name") p.name
   pub plain : IsPlainName p.name
+  pub no_model : LacksAttribute e (codes "blif_model")
   pub num_pb : HasNumberOr e (codes "num_pb") 1 p.count
   pub one : p.count ≡ 1
   pub each_port : Each IsPort ports p.ports

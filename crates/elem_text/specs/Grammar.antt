@@ -16,32 +16,6 @@ abbrev pub HasName : List Attr → List ℕ → Type 0
 HasName [] name = ⊥
 HasName (a ∷ attrs) name = (a.name ≡ name) ⊎ HasName attrs name
 
-<<<<<<< HEAD
--- NAME = "VALUE", in either quotes and with white space round the sign; the value is what stands
--- between the quotes, with its references read
-pub record IsAttr (bytes : List ℕ) (a : Attr) (after : List ℕ) : Type 0 where
-  pub quote : ℕ
-  pub raw : List ℕ
-  pub gap : List ℕ
-  pub gap' : List ℕ
-  pub at_gap : List ℕ
-  pub at_sign : List ℕ
-  pub at_quote : List ℕ
-  pub named : IsNamed bytes a.name at_gap
-  pub before_sign : IsSpan is_white at_gap gap (61 ∷ at_sign)
-  pub before_quote : IsSpan is_white at_sign gap' (quote ∷ at_quote)
-  pub is_quote : IsQuote quote
-  pub quoted : IsSpan (is_not quote) at_quote raw (quote ∷ after)
-  pub value : a.value ≡ decoded raw
-
--- attributes, each behind white space and with a name of its own, then white space that may be
--- missing, then `behind`; the first list holds the attributes of the tag that stand before
-abbrev pub Attributes : List Attr → List ℕ → List Attr → List ℕ → Type 0
-Attributes before bytes [] behind = (gap : List ℕ) × IsSpan is_white bytes gap behind
-Attributes before bytes (a ∷ attrs) behind =
-    (gap rest after : List ℕ) × IsSpan is_white bytes gap rest × (gap ≢ []) × IsAttr rest a after
-    × (HasName before a.name → ⊥) × Attributes (before ++ a ∷ []) after attrs behind
-=======
 -- a quote, bytes other than it, and the quote again
 pub record IsQuoted (bytes raw after : List ℕ) : Type 0 where
   pub quote : ℕ
@@ -70,7 +44,6 @@ Attributes before bytes [] behind = (gap : List ℕ) × IsSpan is_white bytes ga
 Attributes before bytes (a ∷ attrs) behind =
     (gap rest raw after : List ℕ) × IsSpan is_white bytes gap rest × (gap ≢ []) × IsAttr rest a.name raw after
     × (a.value ≡ decoded raw) × (HasName before a.name → ⊥) × Attributes (before ++ a ∷ []) after attrs behind
->>>>>>> 1440df1
 
 -- how a start tag ends, and an empty tag
 abbrev pub tail_of : Bool → List ℕ → List ℕ
@@ -145,9 +118,6 @@ abbrev pub body : List ℕ → List ℕ
 body bytes = if has_mark bytes then drop 3 bytes else bytes
 
 abbrev pub body_place : List ℕ → Place
-<<<<<<< HEAD
-body_place bytes = if has_mark bytes then place_after first_place (take 3 bytes) else first_place
-=======
 body_place bytes = if has_mark bytes then record { line = 1; byte = 4 } else first_place
 
 -- the bytes, which begin at this place, are one element with white space, comments and instructions
@@ -157,16 +127,8 @@ pub record IsFile (at : Place) (bytes : List ℕ) (e : Elem) : Type 0 where
   pub end : Place
   pub reads : Reads at bytes ps end []
   pub document : IsDocument ps e
->>>>>>> 1440df1
 
 -- the bytes are a file of element text with this root element
 pub record Spells (bytes : List ℕ) (e : Elem) : Type 0 where
   pub utf8 : IsUtf8 bytes
-<<<<<<< HEAD
-  pub ps : List Piece
-  pub end : Place
-  pub reads : Reads (body_place bytes) (body bytes) ps end []
-  pub document : IsDocument ps e
-=======
   pub file : IsFile (body_place bytes) (body bytes) e
->>>>>>> 1440df1

@@ -19,15 +19,6 @@ pub record Referred : Type 0 where
   pub char : ℕ
   pub len : ℕ
 
-<<<<<<< HEAD
--- behind the first bytes, digits, which are the number of a Unicode scalar value, and a semicolon
-unfoldable pub numbered : ℕ → ℕ → List ℕ → Option Referred
-numbered base past bytes =
-    let digits = take_while (is_digit_of base) (drop past bytes) in
-    let value = digits_value base digits in
-    if nat_lt 0 (length digits) && ((slice_index bytes (past + length digits) == 59) && scalar value)
-    then Some (record { char = value; len = past + length digits + 1 }) else None
-=======
 -- the longest front of the class
 abbrev pub leading : (ℕ → Bool) → List ℕ → List ℕ
 leading p [] = []
@@ -40,7 +31,6 @@ numbered base past bytes =
     let digits = leading (is_digit_of base) bytes in
     if nat_lt 0 (length digits) && (begins (59 ∷ []) (drop (length digits) bytes) && scalar (digits_value base digits))
     then Some (record { char = digits_value base digits; len = past + (length digits + 1) }) else None
->>>>>>> 1440df1
 
 -- the reference that the bytes behind an ampersand begin with
 unfoldable pub reference : List ℕ → Option Referred
@@ -50,10 +40,6 @@ reference bytes =
     if begins (codes "amp;") bytes then Some (record { char = 38; len = 4 }) else
     if begins (codes "quot;") bytes then Some (record { char = 34; len = 5 }) else
     if begins (codes "apos;") bytes then Some (record { char = 39; len = 5 }) else
-<<<<<<< HEAD
-    if begins (codes "#x") bytes then numbered 16 2 bytes else
-    if begins (codes "#") bytes then numbered 10 1 bytes else None
-=======
     if begins (codes "#x") bytes then numbered 16 2 (drop 2 bytes) else
     if begins (codes "#") bytes then numbered 10 1 (drop 1 bytes) else None
 
@@ -61,24 +47,13 @@ reference bytes =
 abbrev pub at_ampersand : Option Referred → (ℕ → List ℕ) → List ℕ
 at_ampersand None past = 38 ∷ past 0
 at_ampersand (Some r) past = encode_utf8 r.char ++ past r.len
->>>>>>> 1440df1
 
 -- what the bytes stand for, past the first so many, which belong to a reference
 abbrev pub decoded_past : ℕ → List ℕ → List ℕ
 decoded_past skip [] = []
 decoded_past (suc skip) (b ∷ bytes) = decoded_past skip bytes
-<<<<<<< HEAD
-decoded_past zero (b ∷ bytes) = elim (b == 38) [
-  | false ↦ b ∷ decoded_past zero bytes
-  | true ↦ elim (reference bytes) [
-    | Some r ↦ encode_utf8 r.char ++ decoded_past r.len bytes
-    | None ↦ 38 ∷ decoded_past zero bytes
-  ]
-]
-=======
 decoded_past zero (b ∷ bytes) =
     cond (b == 38) (at_ampersand (reference bytes) (λ n. decoded_past n bytes)) (b ∷ decoded_past zero bytes)
->>>>>>> 1440df1
 
 -- what the bytes stand for
 abbrev pub decoded : List ℕ → List ℕ
