@@ -9,6 +9,7 @@ mod live;
 mod names;
 mod prog;
 mod read;
+mod walk;
 
 pub use back::follow;
 pub use lines::next_line;
@@ -16,3 +17,4 @@ pub use live::is_live;
 pub use names::{put_instance, put_pin};
 pub use prog::Prog;
 pub use read::{ProgError, read_prog};
+pub use walk::last_pin;
