@@ -57,3 +57,19 @@ AreAnswers g c [] text = text ≡ []
 AreAnswers g c (pin ∷ pins) text =
     (answer rest : List ℕ) × IsAnswer g c pin answer × AreAnswers g c pins rest
     × (text ≡ pin_name g pin ++ 32 ∷ (answer ++ 10 ∷ rest))
+
+-- the same of the pin of number n
+abbrev pub leaf_input_at : Graph → ℕ → Bool
+leaf_input_at g n = option_map_or (is_leaf_input g) (slice_get g.pins n) false
+
+-- the text grew by the answer for a pin
+pub record AddsAnswer (g : Graph) (c : Choices) (pin : ℕ) (old new : List ℕ) : Type 0 where
+  pub answer : List ℕ
+  pub is : IsAnswer g c pin answer
+  pub got : new ≡ old ++ answer
+
+-- the text grew by the line of a pin
+pub record AddsLine (g : Graph) (c : Choices) (pin : ℕ) (old new : List ℕ) : Type 0 where
+  pub answer : List ℕ
+  pub is : IsAnswer g c pin answer
+  pub got : new ≡ old ++ (pin_name g pin ++ 32 ∷ (answer ++ 10 ∷ []))

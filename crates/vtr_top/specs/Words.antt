@@ -34,3 +34,7 @@ pub record IsFirstWrong (words : List (List ℕ)) (place : ℕ) : Type 0 where
 -- the words are this command
 abbrev pub AreCommand : List (List ℕ) → Command → Type 0
 AreCommand words (Trace arch block prog) = AreRight words arch.now block.now prog.now
+
+-- behind some first word, the words are those of this command
+abbrev pub AreFour : List (List ℕ) → Command → Type 0
+AreFour words (Trace arch block prog) = (first : List ℕ) × (words ≡ first ∷ (arch.now ∷ (block.now ∷ (prog.now ∷ []))))

@@ -1,7 +1,8 @@
-ghost use Rattle.std.specs.Prelude.{◌≡◌, ◌<◌, ◌≤◌, ◌+◌, ◌↔◌, true, ◌++◌, ◌∷◌, All, IfOk, OnOk, IsTrue, length, slice_get};
+ghost use Rattle.std.specs.Prelude.{◌≡◌, ◌<◌, ◌≤◌, ◌+◌, Some, All, IfOk, OnOk, IsSome, length};
 ghost use Rattle.prog_map.specs.Choices.{IsProgOf};
-ghost use Rattle.prog_map.specs.Names.{pin_name};
-ghost use Rattle.vtr_top.specs.Lines.{AreAnswers, leaf_inputs, IsLeafInput, AddsLine};
+ghost use Rattle.std.specs.Option.{option_map};
+ghost use Rattle.prog_map.specs.Names.{port_at};
+ghost use Rattle.vtr_top.specs.Lines.{AreAnswers, leaf_inputs, leaf_input_at, is_leaf, is_input, AddsLine, AddsAnswer};
 
 use arch_types::Side;
 use pb_expand::{PbGraph, PbKind, PinAt, PinIx};
@@ -17,9 +18,10 @@ pub fn answers(alloc: Global, graph: &PbGraph, prog: &Prog) -> Result<Vec<u8>, A
     let mut text = Vec::new(alloc);
     let mut met = vec![in alloc; 0u32; graph.pins() as usize]?;
     for pin in 0..graph.pins() {
-        if is_leaf_input(graph, PinIx(pin)) {
-            put_line(&mut text, graph, prog, PinIx(pin), &mut met)?;
+        if !is_leaf_input(graph, PinIx(pin)) {
+            continue;
         }
+        put_line(&mut text, graph, prog, PinIx(pin), &mut met)?;
     }
     Ok(text)
 }
@@ -27,17 +29,41 @@ pub fn answers(alloc: Global, graph: &PbGraph, prog: &Prog) -> Result<Vec<u8>, A
 /// Whether a pin is an input pin of a leaf.
 fn is_leaf_input(graph: &PbGraph, pin: PinIx) -> bool
     requires { pin.0 < length graph.now.pins }
-    ensures { IsTrue result ↔ IsLeafInput graph.now pin.0 }
+    ensures { result ≡ leaf_input_at graph.now pin.0 }
 {
     graph.law();
-    let PinAt { pb, port, .. } = graph.pin_at(pin);
-    if let PbKind::Modes(_) = graph.kind(pb) {
+    let at = graph.pin_at(pin);
+    if !is_leaf(graph.kind(at.pb)) {
         return false;
     }
-    match graph.ports(pb)[port as usize].side {
+    is_input(side_of(graph, at))
+}
+
+fn is_leaf(kind: PbKind) -> bool
+    ensures { result ≡ is_leaf kind }
+{
+    match kind {
+        PbKind::Leaf(_) => true,
+        PbKind::Modes(_) => false,
+    }
+}
+
+fn is_input(side: Side) -> bool
+    ensures { result ≡ is_input side }
+{
+    match side {
         Side::Input => true,
         Side::Output | Side::Clock => false,
     }
+}
+
+/// The side of the port of a pin.
+fn side_of(graph: &PbGraph, at: PinAt) -> Side
+    requires inside { at.pb.0 < length graph.now.instances }
+    requires there { IsSome (port_at graph.now at) }
+    ensures { option_map (λ port. port.side) (port_at graph.now at) ≡ Some result }
+{
+    graph.ports(at.pb)[at.port as usize].side
 }
 
 /// Appends the line of a pin.
@@ -47,14 +73,29 @@ fn put_line(text: &mut Vec<u8>, graph: &PbGraph, prog: &Prog, pin: PinIx, met: &
     requires room { length met.old ≡ length graph.now.pins }
     requires fresh { All (λ mark. mark ≤ pin.0) met.old }
     ensures line { OnOk result (AddsLine graph.now prog.now pin.0 text.old.items text.new.items) }
-    ensures marks { All (λ mark. mark ≤ pin.0 + 1) met.new }
+    ensures marks { OnOk result (All (λ mark. mark ≤ pin.0 + 1) met.new) }
 {
     put_pin(text, graph, pin)?;
     text.push(b' ')?;
-    match follow(graph, prog, pin) {
-        None => text.extend_from_slice(b"open")?,
-        Some(_) => put_pin(text, graph, last_pin(graph, prog, pin, met))?,
-    }
+    put_answer(text, graph, prog, pin, met)?;
     text.push(b'\n')?;
     Ok(())
+}
+
+/// Appends the name of the last pin of the walk back, or `open`.
+fn put_answer(text: &mut Vec<u8>, graph: &PbGraph, prog: &Prog, pin: PinIx, met: &mut [u32]) -> Result<(), AllocError>
+    requires inside { pin.0 < length graph.now.pins }
+    requires of { IsProgOf graph.now prog.now }
+    requires room { length met.old ≡ length graph.now.pins }
+    requires fresh { All (λ mark. mark ≤ pin.0) met.old }
+    ensures answer { OnOk result (AddsAnswer graph.now prog.now pin.0 text.old.items text.new.items) }
+    ensures marks { OnOk result (All (λ mark. mark ≤ pin.0 + 1) met.new) }
+{
+    match follow(graph, prog, pin) {
+        None => text.extend_from_slice(b"open"),
+        Some(_) => {
+            let last = last_pin(graph, prog, pin, met);
+            put_pin(text, graph, last)
+        }
+    }
 }

@@ -1,6 +1,6 @@
-ghost use Rattle.std.specs.Prelude.{◌≡◌, ◌+◌, ◌++◌, [], ◌∷◌, IfOk, OnOk, codes};
+ghost use Rattle.std.specs.Prelude.{◌≡◌, ◌<◌, ◌+◌, ◌^◌, ◌++◌, [], ◌∷◌, IfOk, OnOk, codes};
 ghost use Rattle.std.specs.Fmt.{decimal};
-ghost use Rattle.vtr_top.specs.Stops.{stop_text, refusal_text};
+ghost use Rattle.vtr_top.specs.Stops.{stop_text, refusal_text, form_text};
 
 use crate::stop::{Form, Refusal, Stop};
 use std::alloc::{AllocError, Global};
@@ -48,12 +48,24 @@ fn put_refusal(text: &mut Vec<u8>, refusal: Refusal<'_>) -> Result<(), AllocErro
 {
     match refusal {
         Refusal::TooLong => text.extend_from_slice(b"4 TooLong"),
-        Refusal::NoBlockType { name } => {
-            text.extend_from_slice(b"5 NoBlockType ")?;
-            text.extend_from_slice(name.as_bytes())
-        }
-        Refusal::NotBuilt(Form::Architecture) => text.extend_from_slice(b"6 NotBuilt architecture"),
-        Refusal::NotBuilt(Form::Programming) => text.extend_from_slice(b"6 NotBuilt programming"),
+        Refusal::NoBlockType { name } => put_two(text, b"5 NoBlockType ", name.as_bytes()),
+        Refusal::NotBuilt(form) => put_two(text, b"6 NotBuilt ", form_name(form)),
         Refusal::Missing => text.extend_from_slice(b"7 Missing"),
     }
+}
+
+fn form_name(form: Form) -> &'static [u8]
+    ensures { result.now ≡ form_text form }
+{
+    match form {
+        Form::Architecture => b"architecture",
+        Form::Programming => b"programming",
+    }
+}
+
+fn put_two(text: &mut Vec<u8>, one: &[u8], two: &[u8]) -> Result<(), AllocError>
+    ensures { OnOk result (text.new.items ≡ text.old.items ++ (one.now ++ two.now)) }
+{
+    text.extend_from_slice(one)?;
+    text.extend_from_slice(two)
 }

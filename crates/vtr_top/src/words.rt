@@ -1,5 +1,5 @@
-ghost use Rattle.std.specs.Prelude.{◌≡◌, ◌↔◌, IsTrue, MatchResult, map, string_bytes};
-ghost use Rattle.vtr_top.specs.Words.{IsPlain, CanStand, AreCommand, IsFirstWrong};
+ghost use Rattle.std.specs.Prelude.{◌≡◌, ◌≢◌, ◌↔◌, IsTrue, MatchOption, MatchResult, length, map, string_bytes};
+ghost use Rattle.vtr_top.specs.Words.{IsPlain, CanStand, AreFour, AreCommand, IsFirstWrong};
 
 /// A command with its words.
 #[derive(Clone, Copy)]
@@ -9,7 +9,7 @@ pub enum Command<'w> {
 }
 
 /// The command that the words are, or the first place, counted from 0, at which they are none.
-pub fn command(words: &[String]) -> Result<Command<'_>, usize>
+pub fn read_words(words: &[String]) -> Result<Command<'_>, usize>
     ensures { MatchResult result (AreCommand (map string_bytes words.now)) (IsFirstWrong (map string_bytes words.now)) }
 {
     for (place, word) in words.iter().enumerate() {
@@ -17,14 +17,24 @@ pub fn command(words: &[String]) -> Result<Command<'_>, usize>
             return Err(place);
         }
     }
-    match words {
-        [_, arch, block, prog] => Ok(Command::Trace {
-            arch: arch.as_str(),
-            block: block.as_str(),
-            prog: prog.as_str(),
-        }),
-        _ => Err(words.len()),
+    match four_words(words) {
+        Some(command) => Ok(command),
+        None => Err(words.len()),
     }
+}
+
+/// The command of four words, whatever the first one is.
+fn four_words(words: &[String]) -> Option<Command<'_>>
+    ensures { MatchOption result (length words.now ≢ 4) (AreFour (map string_bytes words.now)) }
+{
+    if words.len() != 4 {
+        return None;
+    }
+    Some(Command::Trace {
+        arch: words[1].as_str(),
+        block: words[2].as_str(),
+        prog: words[3].as_str(),
+    })
 }
 
 /// Whether a command can have the word at that place.
