@@ -1,4 +1,4 @@
-ghost use Rattle.std.specs.Prelude.{◌≡◌, ◌<◌, ◌≤◌, ◌+◌, Some, All, IfOk, OnOk, IsSome, length};
+ghost use Rattle.std.specs.Prelude.{◌≡◌, ◌<◌, ◌≤◌, ◌+◌, Some, [], All, IfOk, OnOk, IsSome, length};
 ghost use Rattle.prog_map.specs.Choices.{IsProgOf};
 ghost use Rattle.std.specs.Option.{option_map};
 ghost use Rattle.prog_map.specs.Names.{port_at};
@@ -17,13 +17,25 @@ pub fn answers(alloc: Global, graph: &PbGraph, prog: &Prog) -> Result<Vec<u8>, A
 {
     let mut text = Vec::new(alloc);
     let mut met = vec![in alloc; 0u32; graph.pins() as usize]?;
+    put_lines(&mut text, graph, prog, &mut met)?;
+    Ok(text)
+}
+
+/// Writes the lines into an empty text, with a mark for each pin that no walk has made yet.
+fn put_lines(text: &mut Vec<u8>, graph: &PbGraph, prog: &Prog, met: &mut [u32]) -> Result<(), AllocError>
+    requires of { IsProgOf graph.now prog.now }
+    requires empty { text.old.items ≡ [] }
+    requires room { length met.old ≡ length graph.now.pins }
+    requires fresh { All (λ mark. mark ≤ 0) met.old }
+    ensures { OnOk result (AreAnswers graph.now prog.now (leaf_inputs graph.now) text.new.items) }
+{
     for pin in 0..graph.pins() {
         if !is_leaf_input(graph, PinIx(pin)) {
             continue;
         }
-        put_line(&mut text, graph, prog, PinIx(pin), &mut met)?;
+        put_line(text, graph, prog, PinIx(pin), met)?;
     }
-    Ok(text)
+    Ok(())
 }
 
 /// Whether a pin is an input pin of a leaf.
