@@ -1,5 +1,5 @@
 -- Reading lists.
-use Rattle.std.proofs.Common.{◌≡◌, ◌≢◌, ◌+◌, ◌<◌, ◌≤◌, ℕ, zero, suc, Bool, true, false, not, nat_lt, cond, List, [], ◌∷◌, ◌++◌, Option, Some, None, IsSome, MatchOption, length, get_or, slice_get, position, refl, sym, ap, ◌∙◌, subst, inl, inr, arith, rules, length-append}
+use Rattle.std.proofs.Common.{◌≡◌, ◌≢◌, ◌+◌, ◌<◌, ◌≤◌, ◌⊎◌, ℕ, zero, suc, Bool, true, false, not, nat_lt, cond, List, [], ◌∷◌, ◌++◌, Option, Some, None, IsSome, MatchOption, length, get_or, slice_get, position, refl, sym, ap, ◌∙◌, subst, inl, inr, arith, rules, length-append}
 use Rattle.std.proofs.lemmas.Option.{slice_get_within, slice_get_past, slice_get-get_or, get_or_from_slice_get}
 use Rattle.std.proofs.lemmas.List.Sums.{fails_before_first, prefix_len_stops}
 use Rattle.std.proofs.lemmas.Bool.Decides.{nat_tests}
@@ -15,6 +15,13 @@ pub get_after : {X : Type 0} (xs ys : List X) (y : X) (k : ℕ) → k ≡ length
 get_after [] ys y k e = rw e refl
 get_after (x ∷ xs) ys y zero e = absurd (omega arith)
 get_after (x ∷ xs) ys y (suc k) e = get_after xs ys y k (omega arith)
+
+-- what stands in a list stands in its front or behind it
+pub get_either : {X : Type 0} (xs ys : List X) (k : ℕ) (x : X) → slice_get (xs ++ ys) k ≡ Some x →
+    (slice_get xs k ≡ Some x) ⊎ ((j : ℕ) × (k ≡ length xs + j) × (slice_get ys j ≡ Some x))
+get_either [] ys k x e = inr (k, omega arith, e)
+get_either (y ∷ xs) ys zero x e = inl e
+get_either (y ∷ xs) ys (suc k) x e = elim (get_either xs ys k x e) [ inl h ↦ inl h | inr h ↦ inr (h.0, omega (arith, h.1), h.2) ]
 
 pub has_at : {X : Type 0} (xs : List X) (k : ℕ) (x : X) → slice_get xs k ≡ Some x → Has xs x
 has_at [] k x e = cc

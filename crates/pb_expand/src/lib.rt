@@ -2,8 +2,13 @@
 //! in the tree of pb_types.
 #![tactic(auto)]
 
+mod copy;
+mod ends;
+mod error;
 mod graph;
 mod number;
+mod rows;
 
+pub use error::ExpandError;
 pub use graph::PbGraph;
 pub use number::{Edge, EdgeIx, PbIx, PbKind, PinAt, PinIx, Step};
