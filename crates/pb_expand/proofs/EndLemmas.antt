@@ -1,5 +1,5 @@
 -- Edges by end, edge by edge.
-use Rattle.std.proofs.Common.{◌≡◌, ◌+◌, ◌<◌, ◌≤◌, ◌==◌, ◌&&◌, if◌then◌else◌, cond, ℕ, Bool, true, false, List, [], ◌∷◌, ◌++◌, Option, Some, None, length, get_or, take, refl, sym, ap, ◌∙◌, subst, arith, append_assoc, length-append}
+use Rattle.std.proofs.Common.{◌≡◌, ◌+◌, ◌<◌, ◌≤◌, ◌==◌, ◌&&◌, if◌then◌else◌, cond, ℕ, zero, suc, Bool, true, false, List, [], ◌∷◌, ◌++◌, Option, Some, None, length, get_or, take, refl, sym, ap, ◌∙◌, subst, arith, append_assoc, length-append}
 use Rattle.std.specs.Option.{option_map_or}
 use Rattle.std.specs.HashMap.{HashMap, get}
 use Rattle.std.proofs.lemmas.List.{append-nil, take_more, length-take}
@@ -7,7 +7,7 @@ use Rattle.std.proofs.lemmas.Bool.Decides.{nat_tests}
 use Rattle.pb_expand.specs.declared.number.EdgeIx.{EdgeIx}
 use Rattle.pb_expand.specs.declared.number.Edge.{Edge}
 use Rattle.pb_expand.specs.declared.number.End.{End}
-use Rattle.pb_expand.specs.Graph.{into_from, edge_ix, pin_ix}
+use Rattle.pb_expand.specs.Graph.{into_from, edge_ix, pin_ix, pb_ix}
 use Rattle.pb_expand.specs.Ends.{same_end, end_at, listed, AreEnds}
 
 abbrev pub list_of : Option (List EdgeIx) → List EdgeIx
@@ -73,3 +73,11 @@ ends_push edges n e old new inside at ends pushed = record { are = λ pin mode. 
         ∙ ap (λ l. l ++ (if same_end (end_at e.dst.0 e.mode) (end_at pin mode) then edge_ix n ∷ [] else [])) (ends.are pin mode)
         ∙ sym (after ∙ ap (λ k. into_from 0 (take n edges) pin mode ++ (if (e.dst.0 == pin) && (e.mode == mode) then edge_ix k ∷ [] else [])) place)
         ∙ ap (λ es. into_from 0 es pin mode) (sym longer)
+
+abbrev pub no_edge : Edge
+no_edge = record { src = pin_ix 0; dst = pin_ix 0; owner = pb_ix 0; mode = 0; inter = 0 }
+
+pub read_itself : {X : Type 0} (xs : List X) (k : ℕ) (d : X) → k < length xs → get_or xs k d ≡ get_or xs k (get_or xs k d)
+read_itself [] k d inside = absurd (omega arith)
+read_itself (x ∷ xs) zero d inside = refl
+read_itself (x ∷ xs) (suc k) d inside = read_itself xs k d (omega arith)

@@ -50,7 +50,7 @@ pub grew_here : (old rows : List Step) (to_come all : List Address) (here : ℕ)
 grew_here old rows to_come all here grew inside =
     let one = front_read (addresses rows) to_come here [] (omega (arith, length-addresses rows, grew.longer)) in
     let other = front_read (addresses old) all here [] (omega (arith, length-addresses old)) in
-    sym one ∙ ap (λ as. get_or as here []) grew.so_far ∙ other
+    sym one ∙ ap (λ xs. get_or xs here []) grew.so_far ∙ other
 
 earlier_more : (rows : List Step) (s : Step) → IsTree rows → s.parent.0 ≤ length rows → (k : ℕ) (r : Step) → slice_get (rows ++ s ∷ []) k ≡ Some r → r.parent.0 ≤ k
 earlier_more rows s tree low k r at = elim (get_either rows (s ∷ []) k r at) [ inl e ↦ tree.earlier k r e | inr h ↦ by_last h.0 h.1 h.2 ]
@@ -74,7 +74,7 @@ grew_row old rows more to_come all parent mode child n here grew inside at e few
       tree = record { earlier = subst (λ rs. (k : ℕ) (r : Step) → slice_get rs k ≡ Some r → r.parent.0 ≤ k) (sym e) earlier };
       longer = omega (arith, grew.longer);
       few = λ h. few;
-      so_far = ap (λ as. as ++ to_come) adds ∙ append_assoc (addresses rows) (step_to here mode child n ∷ []) to_come ∙ grew.so_far;
+      so_far = ap (λ xs. xs ++ to_come) adds ∙ append_assoc (addresses rows) (step_to here mode child n ∷ []) to_come ∙ grew.so_far;
     }
 
 -- all that stands below the last row
@@ -84,7 +84,7 @@ grew_below old rows more under to_come all grew adds tree few = record {
   tree = tree;
   longer = omega (arith, grew.longer, length-addresses rows, length-addresses more, ap length adds, length-append (addresses rows) under);
   few = λ h. few (grew.few h);
-  so_far = ap (λ as. as ++ to_come) adds ∙ append_assoc (addresses rows) under to_come ∙ grew.so_far;
+  so_far = ap (λ xs. xs ++ to_come) adds ∙ append_assoc (addresses rows) under to_come ∙ grew.so_far;
 }
 
 -- the last row's instance has the address that the row says
@@ -95,7 +95,7 @@ last_address rows more s here a e reads is =
       ap addresses e ∙ addresses-push rows s ∙ ap (λ x. addresses rows ++ step_to x s.mode s.child s.instance ∷ []) reads ∙ ap (λ x. addresses rows ++ x ∷ []) (sym is) in
     let place : length more ≡ length (addresses rows) = ap length e ∙ length-append rows (s ∷ []) ∙ omega (arith, length-addresses rows) in
     get_or_from_slice_get (addresses more) (length more) a []
-      (ap (λ as. slice_get as (length more)) adds ∙ get_after (addresses rows) [] a (length more) place)
+      (ap (λ xs. slice_get xs (length more)) adds ∙ get_after (addresses rows) [] a (length more) place)
 
 -- fewer instances stand below the last row than were to be added
 pub fewer_below : (old rows : List Step) (under to_come all : List Address) → Grew old rows (under ++ to_come) all → length old < length rows → length under < length all
@@ -151,3 +151,29 @@ no_kids kids mode child here done = ap (λ ks. kids_from ks mode child here) (dr
 
 pub no_modes : (modes : List Mode) (mode : ℕ) (here : Address) → length modes ≤ mode → modes_from (drop mode modes) mode here ≡ []
 no_modes modes mode here done = ap (λ ms. modes_from ms mode here) (drop_all mode modes done)
+
+-- what is known once a child's row was pushed
+pub record IsPushed (old more : List Step) (kid : PbType) (below_it : Address) (to_come all : List Address) : Type 0 where
+  pub grew : Grew old more (below kid.kind below_it ++ to_come) all
+  pub address : get_or (addresses more) (length more) [] ≡ below_it
+  pub less : length (below kid.kind below_it) < length all
+
+pub kid_pushed : (old rows more : List Step) (parent mode child n : ℕ) (here : Address) (kids : List PbType) (kid : PbType) (tail all : List Address) →
+    Grew old rows (kids_at (drop child kids) mode child n here ++ tail) all → child < length kids → kid ≡ get_or kids child kid → n < kid.count →
+    parent ≤ length old → get_or (addresses old) parent [] ≡ here → more ≡ rows ++ step_from parent mode child n ∷ [] → length more ≤ 1048575 →
+    IsPushed old more kid (step_to here mode child n) (kids_at (drop child kids) mode child (n + 1) here ++ tail) all
+kid_pushed old rows more parent mode child n here kids kid tail all grew inside e counted low at added few =
+    let below_it = step_to here mode child n in
+    let under = below kid.kind below_it in
+    let behind = kids_at (drop child kids) mode child (n + 1) here in
+    let opened : kids_at (drop child kids) mode child n here ++ tail ≡ below_it ∷ (under ++ (behind ++ tail)) =
+      ap (λ l. l ++ tail) (kid_step kids mode child n here kid inside e counted) ∙ ap (λ l. below_it ∷ l) (append_assoc under behind tail) in
+    let grew_one = grew_by old rows (kids_at (drop child kids) mode child n here ++ tail) (below_it ∷ (under ++ (behind ++ tail))) all grew opened in
+    let reads = grew_here old rows (below_it ∷ (under ++ (behind ++ tail))) all parent grew_one low ∙ at in
+    let grown = grew_row old rows more (under ++ (behind ++ tail)) all parent mode child n here grew_one low at added few in
+    let longer : length old < length more = omega (arith, grew.longer, ap length added, length-append rows (step_from parent mode child n ∷ [])) in
+    record {
+      grew = grown;
+      address = last_address rows more (step_from parent mode child n) here below_it added reads refl;
+      less = fewer_below old more under (behind ++ tail) all grown longer;
+    }
