@@ -1,6 +1,7 @@
 ghost use Rattle.std.specs.Prelude.{◌≡◌};
 ghost use Rattle.pb_expand.specs.declared.error.ExpandError.TheVariants.{OutOfMemory};
 
+use mode_edges::EdgeError;
 use std::alloc::{AllocError, AllocFailed};
 use thiserror::Error;
 
@@ -31,5 +32,14 @@ impl<T: Drop> From<AllocFailed<T>> for ExpandError {
 
     fn from(_e: AllocFailed<T>) -> ExpandError {
         ExpandError::OutOfMemory
+    }
+}
+
+impl From<EdgeError> for ExpandError {
+    fn from(e: EdgeError) -> ExpandError {
+        match e {
+            EdgeError::NotBuilt => ExpandError::NotBuilt,
+            EdgeError::OutOfMemory => ExpandError::OutOfMemory,
+        }
     }
 }

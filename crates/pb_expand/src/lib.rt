@@ -3,12 +3,14 @@
 #![tactic(auto)]
 
 mod copy;
+mod edges;
 mod ends;
 mod error;
 mod graph;
 mod number;
+mod places;
 mod rows;
 
 pub use error::ExpandError;
-pub use graph::PbGraph;
+pub use graph::{PbGraph, expand};
 pub use number::{Edge, EdgeIx, PbIx, PbKind, PinAt, PinIx, Step};
