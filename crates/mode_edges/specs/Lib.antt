@@ -1,2 +1,3 @@
 pub mod PinWords
+pub mod Readers
 pub mod Edges

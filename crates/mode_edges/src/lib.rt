@@ -2,6 +2,9 @@
 //! that they give, each owned by the first interconnect that gives it.
 #![tactic(auto)]
 
+mod names;
 mod pin;
+mod split;
+mod word;
 
-pub use pin::{ChildAt, LocalEdge, LocalPin};
+pub use pin::{ChildAt, LocalEdge, LocalPin, Role};

@@ -21,3 +21,10 @@ pub struct LocalEdge {
     pub dst: LocalPin,
     pub inter: u32,
 }
+
+/// Which end of an edge a list of pin words names.
+#[derive(Clone, Copy, Debug, PartialEq, Eq)]
+pub enum Role {
+    Source,
+    End,
+}

@@ -1,0 +1,4 @@
+mod Digits
+mod OneReading
+mod NoReading
+mod Places
