@@ -1,38 +1,26 @@
--- Digits read one by one.
-use Rattle.std.proofs.Common.{◌≡◌, ◌+◌, ◌*◌, ◌<◌, ◌≤◌, ◌^◌, ℕ, List, [], ◌∷◌, length, drop, suc, get_or, refl, sym, ◌∙◌, subst, arith, drop-cons}
+-- Digits read one by one, the value held down to 2^32 - 1.
+use Rattle.std.proofs.Common.{◌≡◌, ◌+◌, ◌*◌, ◌<◌, ◌≤◌, ℕ, List, [], ◌∷◌, refl, sym, ◌∙◌, ap, subst, arith}
 use Rattle.std.specs.Char.{digit_value}
 use Rattle.std.specs.Str.Parse.{AllDigits, digits_value, digits_value_after}
-use Rattle.mode_edges.specs.PinWords.{AreDigits}
+use Rattle.mode_edges.specs.Readers.{capped}
 
 -- what was read of a text, seen from what is left of it
 pub record IsReading (text rest : List ℕ) (value : ℕ) : Type 0 where
-  pub is : digits_value_after 10 value rest ≡ digits_value 10 text
+  pub whole : ℕ
+  pub is : digits_value_after 10 whole rest ≡ digits_value 10 text
+  pub held : value ≡ capped whole
   pub on : AllDigits 10 rest → AllDigits 10 text
   pub back : AllDigits 10 text → AllDigits 10 rest
-  pub fits : value < 2 ^ 32
 
 pub reading_starts : (text : List ℕ) → IsReading text text 0
-reading_starts text = record { is = refl; on = λ all. all; back = λ all. all; fits = omega arith }
+reading_starts text = record { whole = 0; is = refl; held = refl; on = λ all. all; back = λ all. all }
 
-pub value_grows : (value : ℕ) (ds : List ℕ) → value ≤ digits_value_after 10 value ds
-value_grows value [] = omega arith
-value_grows value (d ∷ ds) = omega (arith, value_grows (value * 10 + digit_value d) ds)
-
-pub reads_digit : (text rest : List ℕ) (value b next : ℕ) → IsReading text (b ∷ rest) value → digit_value b < 10 →
-    next ≡ value * 10 + digit_value b → next < 2 ^ 32 → IsReading text rest next
-reads_digit text rest value b next r digit at fits = record {
-  is = subst (λ v. digits_value_after 10 v rest ≡ digits_value 10 text) (sym at) r.is;
-  on = λ all. r.on (digit, all);
+pub reads_digit : (text rest : List ℕ) (value b digit next : ℕ) → IsReading text (b ∷ rest) value → digit ≡ digit_value b → digit < 10 →
+    next ≡ capped (value * 10 + digit) → IsReading text rest next
+reads_digit text rest value b digit next r is small at = record {
+  whole = r.whole * 10 + digit_value b;
+  is = r.is;
+  held = omega (arith, r.held, at, is);
+  on = λ all. r.on (omega (arith, is, small), all);
   back = λ all. (r.back all).1;
-  fits = fits;
 }
-
--- where one more digit makes it too large, the whole is no number
-pub too_large : (text : List ℕ) (at value digit : ℕ) → at < length text → IsReading text (drop at text) value →
-    digit ≡ digit_value (get_or text at 0) → (value * 10 + digit < 2 ^ 32 → ⊥) → (n : ℕ) → AreDigits text n → n < 2 ^ 32 → ⊥
-too_large text at value digit inside r is_digit large n is fits =
-    let cut : drop at text ≡ get_or text at 0 ∷ drop (suc at) text = drop-cons text at 0 inside in
-    let whole : digits_value_after 10 value (get_or text at 0 ∷ drop (suc at) text) ≡ digits_value 10 text =
-      subst (λ rest. digits_value_after 10 value rest ≡ digits_value 10 text) cut r.is in
-    let grown = value_grows (value * 10 + digit_value (get_or text at 0)) (drop (suc at) text) in
-    large (omega (arith, whole, grown, is_digit, is.value, fits))

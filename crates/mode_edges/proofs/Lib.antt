@@ -2,3 +2,5 @@ mod Digits
 mod OneReading
 mod NoReading
 mod Places
+mod WordsOf
+mod WasRead

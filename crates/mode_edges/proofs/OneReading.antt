@@ -8,7 +8,6 @@ use Rattle.std.proofs.lemmas.List.Elements.{All-head, All-tail, All-nil, All-con
 use Rattle.vtr_base.specs.Spans.{is_white, is_dark, Lacks, Stops, IsSpan, AreWords}
 use Rattle.mode_edges.specs.declared.word.Ends.{Ends}
 use Rattle.mode_edges.specs.PinWords.{Index, AreDigits, IsRange, IsRangeOf, IsPart, Word, IsWord}
-use Rattle.mode_edges.specs.Readers.{IsCut, IsSmall}
 
 pub not_both : (v : Bool) → v ≡ true → v ≡ false → ⊥
 not_both v t f = cc
@@ -121,13 +120,13 @@ one_last (x ∷ xs) (y ∷ ys) a b e =
     let k = one_last xs ys a b rest in
     (cc, k.1)
 
-abbrev ends : ℕ → ℕ → Ends
+abbrev pub ends : ℕ → ℕ → Ends
 ends l h = record { low = l; high = h }
 
 abbrev word_with : List ℕ → List ℕ → Index → Word
 word_with head port bits = record { head = head; port = port; bits = bits }
 
-same_ends : (r q : Ends) → (r.low ≡ q.low) × (r.high ≡ q.high) → Some r ≡ Some q
+pub same_ends : (r q : Ends) → (r.low ≡ q.low) × (r.high ≡ q.high) → Some r ≡ Some q
 same_ends r q e =
     ap (λ (l : ℕ). Some (ends l r.high)) e.0 ∙ ap (λ (h : ℕ). Some (ends q.low h)) e.1
 
@@ -148,3 +147,8 @@ word_one text w v a b =
     let p = part_one a.tail w.port v.port w.bits v.bits a.is_port (subst (λ t. IsPart t v.port v.bits) (sym k.1) b.is_port) in
     ap (λ (h : List ℕ). word_with h w.port w.bits) k.0
     ∙ (ap (λ (n : List ℕ). word_with v.head n w.bits) p.0 ∙ ap (λ (i : Index). word_with v.head v.port i) p.1)
+
+-- a range goes from its smaller end to its larger one
+pub range_goes : (text : List ℕ) (lo hi : ℕ) → IsRange text lo hi → lo ≤ hi
+range_goes text lo hi (inl a) = omega arith
+range_goes text lo hi (inr a) = omega (arith, a.is_lo, a.is_hi)

@@ -1,13 +1,15 @@
--- What the readers of pin words keep: where a text is cut, and which indices they take.
-use Rattle.std.specs.Prelude.{◌≡◌, ◌<◌, ◌^◌, ◌-◌, ℕ, List, ◌∷◌, ◌++◌, Option, Some, None, map}
+-- What the readers of pin words keep: where a text is cut, the ends of a range, and what a word
+-- was found to name.
+use Rattle.std.specs.Prelude.{◌≡◌, ◌≤◌, ◌-◌, ℕ, min, List, ◌∷◌, ◌++◌, Option, Some, None, map}
 use Rattle.std.specs.List.{flat_map}
 use Rattle.vtr_base.specs.Lists.{up_from}
 use Rattle.vtr_base.specs.Spans.{Lacks}
-use Rattle.mode_edges.specs.PinWords.{Index, Word, own_pin, child_pin}
+use Rattle.mode_edges.specs.PinWords.{Index, AreDigits, IsRange, IsPart, Word, IsWord, own_pin, child_pin}
 use Rattle.mode_edges.specs.declared.pin.LocalPin.{LocalPin}
 use Rattle.mode_edges.specs.declared.names.Members.{Members}
 use Rattle.mode_edges.specs.declared.names.Named.{Named}
 use Rattle.mode_edges.specs.declared.names.Instances.{Instances}
+use Rattle.mode_edges.specs.declared.word.Ends.{Ends}
 use Rattle.mode_edges.specs.declared.word.PinWord.{PinWord}
 
 -- the text is cut at the first byte of that value
@@ -15,14 +17,32 @@ pub record IsCut (text : List ℕ) (at : ℕ) (front back : List ℕ) : Type 0 w
   pub spelled : text ≡ front ++ at ∷ back
   pub lacks : Lacks front at
 
--- no end of the range is 2^32 or more
-abbrev pub IsSmall : Index → Type 0
-IsSmall None = Unit {0}
-IsSmall (Some ends) = ends.high < 2 ^ 32
+-- what stands for a number that may be larger than any count
+abbrev pub capped : ℕ → ℕ
+capped n = min n 4294967295
 
--- a word that was read, as its parts
-abbrev pub word_of : PinWord → Word
-word_of w = record { head = w.head.now; port = w.port.now; bits = w.bits }
+abbrev pub ReadsNumber : List ℕ → ℕ → Type 0
+ReadsNumber text value = (n : ℕ) × AreDigits text n × (value ≡ capped n)
+
+-- what stands for an index: its ends, where they aren't too large
+abbrev pub Stands : Option Ends → Index → Type 0
+Stands None None = Unit {0}
+Stands None (Some range) = ⊥
+Stands (Some ends) None = ⊥
+Stands (Some ends) (Some range) = (range.low ≤ range.high) × (ends.low ≡ capped range.low) × (ends.high ≡ capped range.high)
+
+abbrev pub ReadsRange : List ℕ → Ends → Type 0
+ReadsRange text ends = (range : Ends) × IsRange text range.low range.high × Stands (Some ends) (Some range)
+
+abbrev pub ReadsPart : List ℕ → List ℕ → Option Ends → Type 0
+ReadsPart text name ends = (index : Index) × IsPart text name index × Stands ends index
+
+-- a word that was read, with its own index
+abbrev pub word_with : PinWord → Index → Word
+word_with w index = record { head = w.head.now; port = w.port.now; bits = index }
+
+abbrev pub ReadsWord : List ℕ → PinWord → Type 0
+ReadsWord text w = (index : Index) × IsWord text (word_with w index) × Stands w.bits index
 
 -- the members of a range, in order
 abbrev pub member_list : Members → List ℕ

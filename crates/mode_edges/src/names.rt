@@ -1,8 +1,8 @@
 ghost use Rattle.std.specs.Prelude.{◌≡◌, ◌≤◌, ◌<◌, ◌+◌, ◌-◌, ◌↔◌, ℕ, List, map, length, IsTrue, MatchOption};
 ghost use Rattle.vtr_base.specs.Lists.{up_from, IsFirstPlace};
 ghost use Rattle.arch_types.specs.Tree.{kids_of};
-ghost use Rattle.mode_edges.specs.PinWords.{AreMembers, IsOwnHead, IsOwnSide, IsChildSide, NamesPort, Names};
-ghost use Rattle.mode_edges.specs.Readers.{member_list, word_of, pins_of};
+ghost use Rattle.mode_edges.specs.PinWords.{Index, AreMembers, IsOwnHead, IsOwnSide, IsChildSide, NamesPort, Names};
+ghost use Rattle.mode_edges.specs.Readers.{Stands, member_list, pins_of};
 
 use arch_types::{Mode, PbType, Port, Side};
 
@@ -39,10 +39,10 @@ pub struct Named {
 }
 
 /// The members of `count` that an index names, where it names none outside.
-fn members_of(index: Option<Ends>, count: u32) -> Option<Members>
-    ensures { MatchOption result ((ms : List ℕ) → AreMembers index count ms → ⊥) (λ m. AreMembers index count (member_list m)) }
+fn members_of(ends: Option<Ends>, count: u32) -> Option<Members>
+    ensures { MatchOption result ((index : Index) (ms : List ℕ) → Stands ends index → AreMembers index count ms → ⊥) (λ m. (index : Index) → Stands ends index → AreMembers index count (member_list m)) }
 {
-    match index {
+    match ends {
         None => Some(Members { low: 0, end: count }),
         Some(ends) => {
             if ends.high >= count {

@@ -1,11 +1,11 @@
-ghost use Rattle.std.specs.Prelude.{◌≡◌, ◌≤◌, ◌<◌, ◌+◌, ◌*◌, ◌^◌, ◌↔◌, ℕ, List, IsTrue, MatchOption};
-ghost use Rattle.std.specs.Option.{SomeIff};
+ghost use Rattle.std.specs.Prelude.{◌≡◌, ◌≤◌, ◌<◌, ◌+◌, ◌*◌, ℕ, List, MatchOption};
 ghost use Rattle.std.specs.Char.{digit_value};
 ghost use Rattle.vtr_base.specs.Spans.{Lacks};
 ghost use Rattle.mode_edges.specs.PinWords.{Index, AreDigits, IsRange, IsPart, Word, IsWord};
-ghost use Rattle.mode_edges.specs.Readers.{IsCut, IsSmall, word_of};
+ghost use Rattle.mode_edges.specs.Readers.{IsCut, capped, ReadsNumber, ReadsRange, ReadsPart, ReadsWord};
 
-/// The ends of a range, the smaller first. An index alone is a range of one.
+/// The ends of a range, the smaller first. An index alone is a range of one. An end of 2^32 - 1 or
+/// more stands as 2^32 - 1, which no port and no count of instances reaches.
 #[derive(Clone, Copy, Debug, PartialEq, Eq)]
 pub struct Ends {
     pub low: u32,
@@ -20,9 +20,9 @@ pub(crate) struct PinWord<'a> {
     pub(crate) bits: Option<Ends>,
 }
 
-/// Reads a pin word. A word with an index of 2^32 or more isn't read: no port is so wide.
+/// Reads a pin word.
 pub(crate) fn word(text: &[u8]) -> Option<PinWord<'_>>
-    ensures { MatchOption result ((w : Word) → IsWord text.now w → IsSmall w.bits → ⊥) (λ w. IsWord text.now (word_of w)) }
+    ensures { MatchOption result ((w : Word) → IsWord text.now w → ⊥) (λ w. ReadsWord text.now w) }
 {
     let (head, tail) = cut(text, b'.')?;
     if let Some(_second) = cut(tail, b'.') {
@@ -34,7 +34,7 @@ pub(crate) fn word(text: &[u8]) -> Option<PinWord<'_>>
 
 /// Reads a name, alone or with an index or a range in brackets behind it.
 pub(crate) fn part(text: &[u8]) -> Option<(&[u8], Option<Ends>)>
-    ensures { MatchOption result ((name : List ℕ) (index : Index) → IsPart text.now name index → IsSmall index → ⊥) (λ r. IsPart text.now r.0.now r.1) }
+    ensures { MatchOption result ((name : List ℕ) (index : Index) → IsPart text.now name index → ⊥) (λ r. ReadsPart text.now r.0.now r.1) }
 {
     let Some((name, behind)) = cut(text, b'[') else {
         return Some((text, None));
@@ -49,7 +49,7 @@ pub(crate) fn part(text: &[u8]) -> Option<(&[u8], Option<Ends>)>
 
 /// Reads `n` or `m:l`.
 fn range(text: &[u8]) -> Option<Ends>
-    ensures { MatchOption result ((low high : ℕ) → IsRange text.now low high → high < 2 ^ 32 → ⊥) (λ ends. IsRange text.now ends.low ends.high) }
+    ensures { MatchOption result ((low high : ℕ) → IsRange text.now low high → ⊥) (λ ends. ReadsRange text.now ends) }
 {
     let Some((one, other)) = cut(text, b':') else {
         let n = number(text)?;
@@ -63,9 +63,9 @@ fn range(text: &[u8]) -> Option<Ends>
     })
 }
 
-/// The value of decimal digits, leading zeros among them, where it is below 2^32.
+/// The value of decimal digits, leading zeros among them, or 2^32 - 1 where it is larger.
 fn number(text: &[u8]) -> Option<u32>
-    ensures { MatchOption result ((n : ℕ) → AreDigits text.now n → n < 2 ^ 32 → ⊥) (λ n. AreDigits text.now n) }
+    ensures { MatchOption result ((n : ℕ) → AreDigits text.now n → ⊥) (λ value. ReadsNumber text.now value) }
 {
     if text.is_empty() {
         return None;
@@ -75,10 +75,7 @@ fn number(text: &[u8]) -> Option<u32>
         let Some(digit) = decimal_digit(*b) else {
             return None;
         };
-        let Some(more) = with_digit(value, digit) else {
-            return None;
-        };
-        value = more;
+        value = with_digit(value, digit);
     }
     Some(value)
 }
@@ -93,11 +90,11 @@ fn decimal_digit(b: u8) -> Option<u8>
     }
 }
 
-/// The number that has one digit more.
-fn with_digit(value: u32, digit: u8) -> Option<u32>
-    ensures { SomeIff result (value * 10 + digit < 2 ^ 32) (value * 10 + digit) }
+/// The number that has one digit more, or 2^32 - 1 where it is larger.
+fn with_digit(value: u32, digit: u8) -> u32
+    ensures { result ≡ capped (value * 10 + digit) }
 {
-    value.checked_mul(10)?.checked_add(u32::from(digit))
+    value.saturating_mul(10).saturating_add(u32::from(digit))
 }
 
 /// What stands before the first such byte, and what stands behind it.

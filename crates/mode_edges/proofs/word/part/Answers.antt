@@ -1,5 +1,6 @@
 use Rattle.std.proofs.Common.{◌≡◌, ◌∷◌, [], ◌++◌, subst}
 use Rattle.mode_edges.proofs.NoReading.{no_part_empty, no_part_open, no_part_range}
+use Rattle.mode_edges.proofs.WasRead.{reads_part}
 use Rattle.mode_edges.proofs.word.part.Goals as goal
 
 pub returns-in_err-last : goal.returns-in_err-last
@@ -17,3 +18,9 @@ returns-in_err-ends c =
     let ends = subst (λ last. c.in-Some.behind.now ≡ c.in_ok-last.inside.now ++ last ∷ []) c.if-last-ne93.false c.in_ok-last.ensures.cases.0 in
     rw c.from_residual-in_err-ends.ensures
     (no_part_range c.args.text.now c.in-Some.name.now c.in-Some.behind.now c.in_ok-last.inside.now c.in-Some.ensures ends c.in_err-ends.ensures)
+
+pub returns : goal.returns
+returns c =
+    let closes = subst (λ last. c.in-Some.behind.now ≡ c.in_ok-last.inside.now ++ last ∷ []) c.if-last-ne93.false c.in_ok-last.ensures.cases.0 in
+    reads_part c.args.text.now c.in-Some.name.now c.in-Some.behind.now c.in_ok-last.inside.now c.in_ok-ends.ends c.in-Some.ensures closes
+      c.in_ok-ends.ensures

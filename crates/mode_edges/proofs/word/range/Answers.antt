@@ -1,5 +1,6 @@
 use Rattle.std.proofs.Common.{◌≡◌}
 use Rattle.mode_edges.proofs.NoReading.{no_range_alone, no_range_first, no_range_second}
+use Rattle.mode_edges.proofs.WasRead.{reads_alone, reads_pair}
 use Rattle.mode_edges.proofs.word.range.Goals as goal
 
 pub returns-in_err-n : goal.returns-in_err-n
@@ -12,3 +13,11 @@ returns-in_err-m c =
 pub returns-in_err-l : goal.returns-in_err-l
 returns-in_err-l c =
     rw c.from_residual-in_err-l.ensures (no_range_second c.args.text.now c.in-Some.one.now c.in-Some.other.now c.in-Some.ensures c.in_err-l.ensures)
+
+pub returns-in_default : goal.returns-in_default
+returns-in_default c = reads_alone c.args.text.now c.in_ok-n.n c.in_ok-n.ensures
+
+pub returns : goal.returns
+returns c =
+    reads_pair c.args.text.now c.in-Some.one.now c.in-Some.other.now c.in_ok-m.m c.in_ok-l.l c.min.result c.max.result c.in-Some.ensures
+      c.in_ok-m.ensures c.in_ok-l.ensures c.min.ensures c.max.ensures
