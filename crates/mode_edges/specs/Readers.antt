@@ -7,7 +7,7 @@ use Rattle.vtr_base.specs.Spans.{Lacks}
 use Rattle.mode_edges.specs.PinWords.{Index, AreDigits, IsRange, IsPart, Word, IsWord, own_pin, child_pin}
 use Rattle.mode_edges.specs.declared.pin.LocalPin.{LocalPin}
 use Rattle.mode_edges.specs.declared.names.Members.{Members}
-use Rattle.mode_edges.specs.declared.names.Named.{Named}
+use Rattle.mode_edges.specs.declared.names.PinGroup.{PinGroup}
 use Rattle.mode_edges.specs.declared.names.Instances.{Instances}
 use Rattle.mode_edges.specs.declared.word.Ends.{Ends}
 use Rattle.mode_edges.specs.declared.word.PinWord.{PinWord}
@@ -54,5 +54,5 @@ pins_at port bits None = map (own_pin port) bits
 pins_at port bits (Some of) = flat_map (λ instance. map (child_pin of.child instance port) bits) (member_list of.members)
 
 -- the pins of what a word names
-abbrev pub pins_of : Named → List LocalPin
+abbrev pub pins_of : PinGroup → List LocalPin
 pins_of named = pins_at named.bits.port (member_list named.bits.bits) named.of

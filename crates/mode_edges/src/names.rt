@@ -1,8 +1,10 @@
-ghost use Rattle.std.specs.Prelude.{◌≡◌, ◌≤◌, ◌<◌, ◌+◌, ◌-◌, ◌↔◌, ℕ, List, map, length, IsTrue, MatchOption};
-ghost use Rattle.vtr_base.specs.Lists.{up_from, IsFirstPlace};
-ghost use Rattle.arch_types.specs.Tree.{kids_of};
-ghost use Rattle.mode_edges.specs.PinWords.{Index, AreMembers, IsOwnHead, IsOwnSide, IsChildSide, NamesPort, Names};
-ghost use Rattle.mode_edges.specs.Readers.{Stands, member_list, pins_of};
+ghost use Rattle.std.specs.Prelude.{◌≡◌, ◌↔◌, ℕ, List, map, IsTrue, IfOk, MatchOption};
+ghost use Rattle.vtr_base.specs.Lists.{IsFirstPlace};
+ghost use Rattle.mode_edges.specs.PinWords.{Index, AreMembers, IsOwnHead, IsOwnSide, IsChildSide, NamesPort, NamesOwn, NamesChild, Names};
+ghost use Rattle.mode_edges.specs.Readers.{Stands, word_with, member_list, pins_of};
+ghost use Rattle.mode_edges.specs.declared.pin.LocalPin.{LocalPin};
+
+use std::alloc::AllocError;
 
 use arch_types::{Mode, PbType, Port, Side};
 
@@ -23,6 +25,13 @@ pub struct PortBits {
     pub bits: Members,
 }
 
+/// Those bits, with the side of their port.
+#[derive(Clone, Copy, Debug, PartialEq, Eq)]
+pub struct SidedBits {
+    pub of: PortBits,
+    pub side: Side,
+}
+
 /// The instances of a child that a word names.
 #[derive(Clone, Copy, Debug, PartialEq, Eq)]
 pub struct Instances {
@@ -33,9 +42,99 @@ pub struct Instances {
 /// What a word names: bits of a port, of the block itself where `of` is `None`, or of each of some
 /// instances of a child.
 #[derive(Clone, Copy, Debug, PartialEq, Eq)]
-pub struct Named {
+pub struct PinGroup {
     pub of: Option<Instances>,
     pub bits: PortBits,
+}
+
+/// What a pin word names, where it names pins on the right side for the role.
+pub(crate) fn named(block: &PbType, mode: &Mode, role: Role, text: &[u8]) -> Result<Option<PinGroup>, AllocError>
+    ensures { IfOk result (λ r. MatchOption r ((pins : List LocalPin) → Names block.now mode.now role text.now pins → ⊥) (λ named. Names block.now mode.now role text.now (pins_of named))) }
+{
+    let Some(word) = word(text) else {
+        return Ok(None);
+    };
+    if is_own_head(block.name.as_bytes(), word.head) {
+        named_own(block, role, &word)
+    } else {
+        named_child(block, mode, role, &word)
+    }
+}
+
+/// What a word names of the block itself, whose name it bears.
+fn named_own(block: &PbType, role: Role, word: &PinWord<'_>) -> Result<Option<PinGroup>, AllocError>
+    requires { IsOwnHead block.now.name word.now.head.now }
+    ensures { IfOk result (λ r. MatchOption r ((index : Index) (pins : List LocalPin) → Stands word.now.bits index → NamesOwn block.now role (word_with word.now index) pins → ⊥) (λ named. (index : Index) → Stands word.now.bits index → NamesOwn block.now role (word_with word.now index) (pins_of named))) }
+{
+    let Some(found) = port_bits(block.ports.as_slice(), word)? else {
+        return Ok(None);
+    };
+    if !is_own_side(role, found.side) {
+        return Ok(None);
+    }
+    Ok(Some(PinGroup {
+        of: None,
+        bits: found.of,
+    }))
+}
+
+/// What a word names of a child, where it doesn't bear the name of the block itself.
+fn named_child(block: &PbType, mode: &Mode, role: Role, word: &PinWord<'_>) -> Result<Option<PinGroup>, AllocError>
+    requires { IsOwnHead block.now.name word.now.head.now → ⊥ }
+    ensures { IfOk result (λ r. MatchOption r ((index : Index) (pins : List LocalPin) → Stands word.now.bits index → NamesChild block.now mode.now role (word_with word.now index) pins → ⊥) (λ named. (index : Index) → Stands word.now.bits index → NamesChild block.now mode.now role (word_with word.now index) (pins_of named))) }
+{
+    let Some((name, ends)) = part(word.head) else {
+        return Ok(None);
+    };
+    let kids = mode.kids.as_slice();
+    let Some(place) = kid_place(kids, name) else {
+        return Ok(None);
+    };
+    let kid = &kids[place];
+    let Some(members) = members_of(ends, kid.count) else {
+        return Ok(None);
+    };
+    let Some(found) = port_bits(kid.ports.as_slice(), word)? else {
+        return Ok(None);
+    };
+    if !is_child_side(role, found.side) {
+        return Ok(None);
+    }
+    let child = place_number(place)?;
+    Ok(Some(PinGroup {
+        of: Some(Instances { child, members }),
+        bits: found.of,
+    }))
+}
+
+/// The bits that a word names of the port of that name.
+fn port_bits(ports: &[Port], word: &PinWord<'_>) -> Result<Option<SidedBits>, AllocError>
+    ensures { IfOk result (λ r. MatchOption r ((index : Index) (side : Side) (port : ℕ) (bits : List ℕ) → Stands word.now.bits index → NamesPort ports.now (λ s. s ≡ side) (word_with word.now index) port bits → ⊥) (λ found. (index : Index) → Stands word.now.bits index → NamesPort ports.now (λ s. s ≡ found.side) (word_with word.now index) found.of.port (member_list found.of.bits))) }
+{
+    let Some(place) = port_place(ports, word.port) else {
+        return Ok(None);
+    };
+    let port = &ports[place];
+    let Some(bits) = members_of(word.bits, port.width) else {
+        return Ok(None);
+    };
+    Ok(Some(SidedBits {
+        of: PortBits {
+            port: place_number(place)?,
+            bits,
+        },
+        side: port.side,
+    }))
+}
+
+/// A place in a list as a number of 32 bits. A list of more than 2^32 is told as want of memory.
+fn place_number(place: usize) -> Result<u32, AllocError>
+    ensures { IfOk result (λ n. n ≡ place) }
+{
+    match u32::try_from(place) {
+        Ok(number) => Ok(number),
+        Err(_) => Err(AllocError),
+    }
 }
 
 /// The members of `count` that an index names, where it names none outside.

@@ -14,6 +14,7 @@ pub struct Ends {
 
 /// A pin word that is cut into what stands before its dot, the name of a port, and what stands in
 /// brackets behind that name.
+#[derive(Drop)]
 pub(crate) struct PinWord<'a> {
     pub(crate) head: &'a [u8],
     pub(crate) port: &'a [u8],

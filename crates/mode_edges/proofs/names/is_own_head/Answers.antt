@@ -1,4 +1,4 @@
-use Rattle.std.proofs.Common.{◌≡◌, IsTrue, length}
+use Rattle.std.proofs.Common.{IsTrue, length}
 use Rattle.mode_edges.proofs.OneReading.{not_both}
 use Rattle.mode_edges.proofs.Places.{own_head_by_rest, own_head_other, split_whole}
 use Rattle.mode_edges.proofs.names.is_own_head.Goals as goal

@@ -1,4 +1,4 @@
-use Rattle.std.proofs.Common.{◌≡◌, ◌∷◌, [], ◌++◌, map, length, sym, subst}
+use Rattle.std.proofs.Common.{map, length, sym, subst}
 use Rattle.mode_edges.proofs.WordsOf.{IsLeft, left_starts, left_goes_on, left_shrinks, left_ends, left_pushed, is_empty_true, is_empty_false}
 use Rattle.mode_edges.proofs.split.words.Goals as goal
 

@@ -1,4 +1,3 @@
-use Rattle.std.proofs.Common.{◌≡◌}
 use Rattle.mode_edges.proofs.NoReading.{no_range_alone, no_range_first, no_range_second}
 use Rattle.mode_edges.proofs.WasRead.{reads_alone, reads_pair}
 use Rattle.mode_edges.proofs.word.range.Goals as goal
