@@ -4,3 +4,4 @@ mod NoReading
 mod Places
 mod WordsOf
 mod WasRead
+mod OneMeaning

@@ -1,4 +1,4 @@
-ghost use Rattle.std.specs.Prelude.{◌≡◌, ◌↔◌, ℕ, List, map, IsTrue, IfOk, MatchOption};
+ghost use Rattle.std.specs.Prelude.{◌≡◌, ◌↔◌, ℕ, List, Some, map, slice_get, IsTrue, IfOk, MatchOption};
 ghost use Rattle.vtr_base.specs.Lists.{IsFirstPlace};
 ghost use Rattle.mode_edges.specs.PinWords.{Index, AreMembers, IsOwnHead, IsOwnSide, IsChildSide, NamesPort, NamesOwn, NamesChild, Names};
 ghost use Rattle.mode_edges.specs.Readers.{Stands, word_with, member_list, pins_of};
@@ -86,11 +86,9 @@ fn named_child(block: &PbType, mode: &Mode, role: Role, word: &PinWord<'_>) -> R
     let Some((name, ends)) = part(word.head) else {
         return Ok(None);
     };
-    let kids = mode.kids.as_slice();
-    let Some(place) = kid_place(kids, name) else {
+    let Some((place, kid)) = find_kid(mode.kids.as_slice(), name) else {
         return Ok(None);
     };
-    let kid = &kids[place];
     let Some(members) = members_of(ends, kid.count) else {
         return Ok(None);
     };
@@ -111,10 +109,9 @@ fn named_child(block: &PbType, mode: &Mode, role: Role, word: &PinWord<'_>) -> R
 fn port_bits(ports: &[Port], word: &PinWord<'_>) -> Result<Option<SidedBits>, AllocError>
     ensures { IfOk result (λ r. MatchOption r ((index : Index) (side : Side) (port : ℕ) (bits : List ℕ) → Stands word.now.bits index → NamesPort ports.now (λ s. s ≡ side) (word_with word.now index) port bits → ⊥) (λ found. (index : Index) → Stands word.now.bits index → NamesPort ports.now (λ s. s ≡ found.side) (word_with word.now index) found.of.port (member_list found.of.bits))) }
 {
-    let Some(place) = port_place(ports, word.port) else {
+    let Some((place, port)) = find_port(ports, word.port) else {
         return Ok(None);
     };
-    let port = &ports[place];
     let Some(bits) = members_of(word.bits, port.width) else {
         return Ok(None);
     };
@@ -155,25 +152,25 @@ fn members_of(ends: Option<Ends>, count: u32) -> Option<Members>
     }
 }
 
-/// The place of the first port of that name.
-fn port_place(ports: &[Port], name: &[u8]) -> Option<usize>
-    ensures { MatchOption result ((place : ℕ) → IsFirstPlace (map (λ p. p.name) ports.now) name.now place → ⊥) (λ place. IsFirstPlace (map (λ p. p.name) ports.now) name.now place) }
+/// The first port of that name, and its place.
+fn find_port<'a>(ports: &'a [Port], name: &[u8]) -> Option<(usize, &'a Port)>
+    ensures { MatchOption result ((place : ℕ) → IsFirstPlace (map (λ p. p.name) ports.now) name.now place → ⊥) (λ found. IsFirstPlace (map (λ p. p.name) ports.now) name.now found.0 × (slice_get ports.now found.0 ≡ Some found.1.now)) }
 {
     for (place, port) in ports.iter().enumerate() {
         if port.name.is(name) {
-            return Some(place);
+            return Some((place, port));
         }
     }
     None
 }
 
-/// The place of the first child of that name.
-fn kid_place(kids: &[PbType], name: &[u8]) -> Option<usize>
-    ensures { MatchOption result ((place : ℕ) → IsFirstPlace (map (λ kid. kid.name) kids.now) name.now place → ⊥) (λ place. IsFirstPlace (map (λ kid. kid.name) kids.now) name.now place) }
+/// The first child of that name, and its place.
+fn find_kid<'a>(kids: &'a [PbType], name: &[u8]) -> Option<(usize, &'a PbType)>
+    ensures { MatchOption result ((place : ℕ) → IsFirstPlace (map (λ kid. kid.name) kids.now) name.now place → ⊥) (λ found. IsFirstPlace (map (λ kid. kid.name) kids.now) name.now found.0 × (slice_get kids.now found.0 ≡ Some found.1.now)) }
 {
     for (place, kid) in kids.iter().enumerate() {
         if kid.name.is(name) {
-            return Some(place);
+            return Some((place, kid));
         }
     }
     None

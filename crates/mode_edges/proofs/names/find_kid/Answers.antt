@@ -1,6 +1,6 @@
 use Rattle.mode_edges.proofs.OneReading.{not_both}
 use Rattle.mode_edges.proofs.Places.{place_more, no_place}
-use Rattle.mode_edges.proofs.names.kid_place.Goals as goal
+use Rattle.mode_edges.proofs.names.find_kid.Goals as goal
 
 pub loop-place-preserved : goal.loop-place-preserved
 loop-place-preserved c =
