@@ -5,3 +5,4 @@ mod Places
 mod WordsOf
 mod WasRead
 mod OneMeaning
+mod Meanings

@@ -1,8 +1,7 @@
 -- Where a reader stops, no reading is there.
-use Rattle.std.proofs.Common.{◌≡◌, ◌==◌, ◌<◌, ◌≤◌, ◌^◌, ◌⊎◌, inl, inr, ℕ, Bool, true, false, not, max, min, List, [], ◌∷◌, ◌++◌, Option, Some, None, length, length-append, refl, sym, ◌∙◌, ap, subst, arith}
+use Rattle.std.proofs.Common.{◌≡◌, inl, inr, ℕ, List, [], ◌∷◌, ◌++◌, Some, None, length, length-append, sym, ◌∙◌, ap, subst, arith}
 use Rattle.vtr_base.specs.Spans.{Lacks}
-use Rattle.mode_edges.specs.declared.word.Ends.{Ends}
-use Rattle.mode_edges.specs.PinWords.{Index, AreDigits, IsRange, IsRangeOf, IsPart, Word, IsWord}
+use Rattle.mode_edges.specs.PinWords.{Index, AreDigits, IsRange, IsPart, Word, IsWord}
 use Rattle.mode_edges.specs.Readers.{IsCut}
 use Rattle.mode_edges.proofs.OneReading.{uncut, one_cut, one_last, no_colon}
 

@@ -1,8 +1,7 @@
 -- A word names one list of pins.
-use Rattle.std.proofs.Common.{◌≡◌, ◌<◌, ◌⊎◌, inl, inr, ℕ, List, [], ◌∷◌, ◌++◌, Option, Some, None, map, slice_get, refl, sym, ◌∙◌, ap, subst, arith}
+use Rattle.std.proofs.Common.{◌≡◌, ◌<◌, ◌⊎◌, inl, inr, ℕ, List, [], ◌∷◌, ◌++◌, Some, None, map, slice_get, sym, ◌∙◌, ap, subst, arith}
 use Rattle.std.specs.List.{flat_map}
 use Rattle.vtr_base.specs.Lists.{IsFirstPlace}
-use Rattle.vtr_base.specs.Spans.{AreWords}
 use Rattle.arch_types.specs.declared.block.PbType.{PbType}
 use Rattle.arch_types.specs.declared.block.Mode.{Mode}
 use Rattle.arch_types.specs.declared.block.Port.{Port}
@@ -10,7 +9,7 @@ use Rattle.arch_types.specs.declared.block.Side.{Side}
 use Rattle.arch_types.specs.Tree.{kids_of}
 use Rattle.mode_edges.specs.declared.pin.LocalPin.{LocalPin}
 use Rattle.mode_edges.specs.declared.pin.Role.{Role}
-use Rattle.mode_edges.specs.PinWords.{Index, Word, IsWord, IsPart, AreMembers, IsOwnHead, IsOwnSide, IsChildSide, own_pin, child_pin, NamesPort, NamesOwn, NamesChild, Names, NamesAll, ReadsPins, without_braces}
+use Rattle.mode_edges.specs.PinWords.{Index, Word, IsPart, AreMembers, IsOwnSide, IsChildSide, own_pin, child_pin, NamesPort, NamesOwn, NamesChild, Names, NamesAll, ReadsPins, without_braces}
 use Rattle.mode_edges.proofs.OneReading.{part_one, word_one, words_one}
 
 pub place_one : {X : Type 0} (xs : List X) (x : X) (p q : ℕ) → IsFirstPlace xs x p → IsFirstPlace xs x q → p ≡ q

@@ -1,13 +1,13 @@
 -- A text is read in one way: cuts, spans, ranges, parts and words.
-use Rattle.std.proofs.Common.{◌≡◌, ◌==◌, ◌<◌, ◌≤◌, ◌^◌, ◌⊎◌, inl, inr, ℕ, Bool, true, false, not, max, min, List, [], ◌∷◌, ◌++◌, Option, Some, None, length, refl, sym, ◌∙◌, ap, subst, arith}
+use Rattle.std.proofs.Common.{◌≡◌, ◌==◌, ◌<◌, ◌≤◌, inl, inr, ℕ, Bool, true, false, not, List, [], ◌∷◌, ◌++◌, Some, None, length, refl, sym, ◌∙◌, ap, subst, arith}
 use Rattle.std.specs.List.{AllPass}
 use Rattle.std.specs.Char.{digit_value}
-use Rattle.std.specs.Str.Parse.{AllDigits, digits_value}
+use Rattle.std.specs.Str.Parse.{AllDigits}
 use Rattle.std.proofs.lemmas.Bool.Decides.{nat_tests}
 use Rattle.std.proofs.lemmas.List.Elements.{All-head, All-tail, All-nil, All-cons}
 use Rattle.vtr_base.specs.Spans.{is_white, is_dark, Lacks, Stops, IsSpan, AreWords}
 use Rattle.mode_edges.specs.declared.word.Ends.{Ends}
-use Rattle.mode_edges.specs.PinWords.{Index, AreDigits, IsRange, IsRangeOf, IsPart, Word, IsWord}
+use Rattle.mode_edges.specs.PinWords.{Index, AreDigits, IsRange, IsPart, Word, IsWord}
 
 pub not_both : (v : Bool) → v ≡ true → v ≡ false → ⊥
 not_both v t f = cc

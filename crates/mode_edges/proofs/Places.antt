@@ -1,5 +1,5 @@
 -- Names found by their first place, and the block's own name before a dot.
-use Rattle.std.proofs.Common.{◌≡◌, ◌↔◌, ◌<◌, ◌≤◌, ◌+◌, ◌⊎◌, inl, inr, ℕ, List, [], ◌∷◌, ◌++◌, Option, Some, None, map, length, get_or, slice_get, codes, refl, sym, ◌∙◌, ap, subst, arith, below_more, take, drop, length-append}
+use Rattle.std.proofs.Common.{◌≡◌, ◌↔◌, ◌<◌, ◌≤◌, ◌+◌, inl, inr, ℕ, List, [], ◌∷◌, ◌++◌, Some, map, length, get_or, slice_get, codes, refl, sym, ◌∙◌, ap, arith, below_more, take, drop}
 use Rattle.std.specs.Option.{option_map}
 use Rattle.std.proofs.lemmas.Option.{slice_get-map, slice_get_read, slice_get_within}
 use Rattle.std.proofs.lemmas.List.{length-map, take-append-drop}

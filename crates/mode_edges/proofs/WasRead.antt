@@ -1,9 +1,8 @@
 -- What was read is a reading.
-use Rattle.std.proofs.Common.{◌≡◌, ◌≤◌, ◌⊎◌, inl, inr, ℕ, min, max, List, [], ◌∷◌, ◌++◌, Option, Some, None, refl, sym, ◌∙◌, ap, subst, arith}
-use Rattle.vtr_base.specs.Spans.{Lacks}
+use Rattle.std.proofs.Common.{◌≡◌, inl, inr, ℕ, min, max, List, [], ◌∷◌, ◌++◌, Some, refl, ◌∙◌, ap, arith}
 use Rattle.mode_edges.specs.declared.word.Ends.{Ends}
-use Rattle.mode_edges.specs.PinWords.{Index, AreDigits, IsRange, IsRangeOf, IsPart}
-use Rattle.mode_edges.specs.Readers.{IsCut, capped, ReadsNumber, ReadsRange, ReadsPart, Stands}
+use Rattle.mode_edges.specs.PinWords.{IsRangeOf}
+use Rattle.mode_edges.specs.Readers.{IsCut, ReadsNumber, ReadsRange, ReadsPart}
 use Rattle.mode_edges.proofs.OneReading.{ends}
 
 pub reads_alone : (text : List ℕ) (v : ℕ) → ReadsNumber text v → ReadsRange text (ends v v)

@@ -1,12 +1,11 @@
 -- The words of a text, found one by one.
-use Rattle.std.proofs.Common.{◌≡◌, ◌==◌, ◌<◌, ◌≤◌, ◌+◌, ℕ, Bool, true, false, not, List, [], ◌∷◌, ◌++◌, length, length-append, append_assoc, append-nil, refl, sym, ◌∙◌, ap, subst, arith}
+use Rattle.std.proofs.Common.{◌≡◌, ◌==◌, ◌<◌, ℕ, Bool, true, false, not, List, [], ◌∷◌, ◌++◌, length, length-append, append_assoc, append-nil, refl, sym, ◌∙◌, ap, subst, arith}
 use Rattle.std.specs.List.{AllPass}
 use Rattle.std.proofs.Common.{Bor, map}
 use Rattle.std.proofs.lemmas.List.{map-append}
 use Rattle.std.proofs.lemmas.Bool.Decides.{nat_tests}
-use Rattle.std.proofs.lemmas.List.Elements.{All-head, All-append, All-nil}
+use Rattle.std.proofs.lemmas.List.Elements.{All-append, All-nil}
 use Rattle.vtr_base.specs.Spans.{is_white, is_dark, Stops, IsSpan, AreWords}
-use Rattle.mode_edges.proofs.OneReading.{not_both}
 
 -- what is left of a text: its words complete those that were found
 pub record IsLeft (text rest : List ℕ) (found : List (List ℕ)) : Type 0 where

@@ -15,7 +15,6 @@ use Rattle.mode_edges.specs.declared.word.Ends.{Ends}
 use Rattle.mode_edges.specs.declared.pin.Role.{Role}
 use Rattle.mode_edges.specs.declared.pin.Role.TheVariants.{Source, End}
 use Rattle.mode_edges.specs.declared.pin.LocalPin.{LocalPin}
-use Rattle.mode_edges.specs.declared.pin.ChildAt.{ChildAt}
 
 -- what stands in brackets: nothing, or a range
 abbrev pub Index : Type 0
