@@ -6,3 +6,4 @@ mod WordsOf
 mod WasRead
 mod OneMeaning
 mod Meanings
+mod NamesSoFar

@@ -59,7 +59,7 @@ pub no_kid : (block : PbType) (mode : Mode) (role : Role) (w : PinWord) (kids : 
 no_kid block mode role w kids name ends are part none index pins stands a =
     let same = part_read w.head.now name ends a.index a.name part a.part in
     none a.child (subst (λ (ks : List PbType). IsFirstPlace (map (λ kid. kid.name) ks) name a.child) (sym are)
-      (subst (λ (n : List ℕ). IsFirstPlace (map (λ kid. kid.name) (kids_of mode)) n a.child) (sym same.0) a.first))
+    (subst (λ (n : List ℕ). IsFirstPlace (map (λ kid. kid.name) (kids_of mode)) n a.child) (sym same.0) a.first))
 
 -- the first child of a name that was read
 pub record IsFound (mode : Mode) (head : List ℕ) (kids : List PbType) (name : List ℕ) (ends : Option Ends) (place : ℕ) (kid : PbType) : Type 0 where
@@ -73,7 +73,7 @@ kid_found : (block : PbType) (mode : Mode) (role : Role) (w : Word) (pins : List
 kid_found block mode role w pins kids name ends place kid found a =
     let same = part_read w.head name ends a.index a.name found.part a.part in
     let first = subst (λ (n : List ℕ). IsFirstPlace (map (λ k. k.name) (kids_of mode)) n place) same.0
-        (subst (λ (ks : List PbType). IsFirstPlace (map (λ k. k.name) ks) name place) found.are found.first) in
+    (subst (λ (ks : List PbType). IsFirstPlace (map (λ k. k.name) ks) name place) found.are found.first) in
     let there = subst (λ (ks : List PbType). slice_get ks place ≡ Some kid) found.are found.there in
     let one = kid_one block mode role w pins a.name a.index place kid a a.part first there in
     (one.kid_is, same.1)
@@ -134,7 +134,7 @@ Answers P r = IfOk r (λ o. MatchOption o ((pins : List LocalPin) → P pins →
 abbrev pub AnswersWord : PinWord → (Word → List LocalPin → Type 0) → Result (Option PinGroup) AllocError → Type 0
 AnswersWord w P r =
     IfOk r (λ o. MatchOption o ((index : Index) (pins : List LocalPin) → Stands w.bits index → P (word_with w index) pins → ⊥)
-      (λ g. (index : Index) → Stands w.bits index → P (word_with w index) (pins_of g)))
+    (λ g. (index : Index) → Stands w.bits index → P (word_with w index) (pins_of g)))
 
 of_word : (text : List ℕ) (w : PinWord) → ReadsWord text w → (P : Word → List LocalPin → Type 0) (r : Result (Option PinGroup) AllocError) → AnswersWord w P r →
     Answers (λ pins. (word : Word) × IsWord text word × P word pins) r
@@ -154,20 +154,26 @@ pub names_own : (block : PbType) (mode : Mode) (role : Role) (text : List ℕ) (
     IsOwnHead block.name w.head.now → AnswersWord w (NamesOwn block role) r → Answers (Names block mode role text) r
 names_own block mode role text w r read own a =
     answers_more (λ pins. (word : Word) × IsWord text word × NamesOwn block role word pins) (Names block mode role text)
-      (λ pins n. record { word = n.0; is = n.1; named = inl n.2 })
-      (λ pins n. (n.word, n.is, own_of pins n)) r (of_word text w read (NamesOwn block role) r a)
+    (λ pins n. record { word = n.0; is = n.1; named = inl n.2 })
+    (λ pins n. (n.word, n.is, own_of pins n)) r (of_word text w read (NamesOwn block role) r a)
   where
     own_of : (pins : List LocalPin) (n : Names block mode role text pins) → NamesOwn block role n.word pins
-    own_of pins n = elim n.named [ inl o ↦ o | inr c ↦ absurd (c.other (subst (λ (v : Word). IsOwnHead block.name v.head)
-      (word_one text (word_with w read.0) n.word read.1 n.is) own)) ]
+    own_of pins n = elim n.named [
+      | inl o ↦ o
+      | inr c ↦ absurd (c.other (subst (λ (v : Word). IsOwnHead block.name v.head)
+          (word_one text (word_with w read.0) n.word read.1 n.is) own))
+    ]
 
 pub names_child : (block : PbType) (mode : Mode) (role : Role) (text : List ℕ) (w : PinWord) (r : Result (Option PinGroup) AllocError) → ReadsWord text w →
     (IsOwnHead block.name w.head.now → ⊥) → AnswersWord w (NamesChild block mode role) r → Answers (Names block mode role text) r
 names_child block mode role text w r read other a =
     answers_more (λ pins. (word : Word) × IsWord text word × NamesChild block mode role word pins) (Names block mode role text)
-      (λ pins n. record { word = n.0; is = n.1; named = inr n.2 })
-      (λ pins n. (n.word, n.is, child_of pins n)) r (of_word text w read (NamesChild block mode role) r a)
+    (λ pins n. record { word = n.0; is = n.1; named = inr n.2 })
+    (λ pins n. (n.word, n.is, child_of pins n)) r (of_word text w read (NamesChild block mode role) r a)
   where
     child_of : (pins : List LocalPin) (n : Names block mode role text pins) → NamesChild block mode role n.word pins
-    child_of pins n = elim n.named [ inr c ↦ c | inl o ↦ absurd (other (subst (λ (v : Word). IsOwnHead block.name v.head)
-      (sym (word_one text (word_with w read.0) n.word read.1 n.is)) o.head)) ]
+    child_of pins n = elim n.named [
+      | inr c ↦ c
+      | inl o ↦ absurd (other (subst (λ (v : Word). IsOwnHead block.name v.head)
+          (sym (word_one text (word_with w read.0) n.word read.1 n.is)) o.head))
+    ]

@@ -59,7 +59,7 @@ pub kid_one : (block : PbType) (mode : Mode) (role : Role) (w : Word) (pins : Li
 kid_one block mode role w pins name index place kid a part first there =
     let same = part_one w.head a.name name a.index index a.part part in
     let at = place_one (map (λ k. k.name) (kids_of mode)) name a.child place
-        (subst (λ n. IsFirstPlace (map (λ k. k.name) (kids_of mode)) n a.child) same.0 a.first) first in
+    (subst (λ n. IsFirstPlace (map (λ k. k.name) (kids_of mode)) n a.child) same.0 a.first) first in
     record { index_is = same.1; place = at; kid_is = same_item (kids_of mode) a.child place a.kid kid at a.there there }
 
 pub child_one : (block : PbType) (mode : Mode) (role : Role) (w : Word) (ps qs : List LocalPin) → NamesChild block mode role w ps → NamesChild block mode role w qs → ps ≡ qs
@@ -69,7 +69,7 @@ child_one block mode role w ps qs a b =
     let same = port_one b.kid.ports (IsChildSide role) (IsChildSide role) w a.port b.port a.bits b.bits names b.names in
     let kept = subst (λ (k : PbType). AreMembers a.index k.count a.instances) kid.kid_is a.members in
     let instances = members_one b.index b.kid.count a.instances b.instances
-        (subst (λ (i : Index). AreMembers i b.kid.count a.instances) kid.index_is kept) b.members in
+    (subst (λ (i : Index). AreMembers i b.kid.count a.instances) kid.index_is kept) b.members in
     a.are
     ∙ (ap (λ (c : ℕ). flat_map (λ instance. map (child_pin c instance a.port) a.bits) a.instances) kid.place
     ∙ (ap (λ (n : ℕ). flat_map (λ instance. map (child_pin b.child instance n) a.bits) a.instances) same.place
@@ -86,7 +86,7 @@ word_names_one block mode role w ps qs (inr a) (inr b) = child_one block mode ro
 pub names_one : (block : PbType) (mode : Mode) (role : Role) (text : List ℕ) (ps qs : List LocalPin) → Names block mode role text ps → Names block mode role text qs → ps ≡ qs
 names_one block mode role text ps qs a b =
     word_names_one block mode role b.word ps qs
-      (subst (λ (w : Word). NamesOwn block role w ps ⊎ NamesChild block mode role w ps) (word_one text a.word b.word a.is b.is) a.named) b.named
+    (subst (λ (w : Word). NamesOwn block role w ps ⊎ NamesChild block mode role w ps) (word_one text a.word b.word a.is b.is) a.named) b.named
 
 pub names_all_one : (block : PbType) (mode : Mode) (role : Role) (texts : List (List ℕ)) (ps qs : List LocalPin) →
     NamesAll block mode role texts ps → NamesAll block mode role texts qs → ps ≡ qs
@@ -101,4 +101,4 @@ pub reads_one : (block : PbType) (mode : Mode) (role : Role) (text : List ℕ) (
     ReadsPins block mode role text ps → ReadsPins block mode role text qs → ps ≡ qs
 reads_one block mode role text ps qs a b =
     names_all_one block mode role b.words ps qs
-      (subst (λ (ws : List (List ℕ)). NamesAll block mode role ws ps) (words_one a.words b.words (without_braces text) a.are_words b.are_words) a.names) b.names
+    (subst (λ (ws : List (List ℕ)). NamesAll block mode role ws ps) (words_one a.words b.words (without_braces text) a.are_words b.are_words) a.names) b.names

@@ -35,14 +35,20 @@ split_whole head front behind n f b = let whole = take-append-drop n head in cc
 -- where the name stands in front and isn't the whole, what follows decides
 pub own_head_by_rest : (T : Type 0) (name head front behind : List ℕ) → (head ≡ name → ⊥) → head ≡ front ++ behind → front ≡ name →
     (T ↔ (behind ≡ codes "[0]")) → T ↔ IsOwnHead name head
-own_head_by_rest T name head front behind not_alone is same test =
-    (λ t. inr (is ∙ (ap (λ (f : List ℕ). f ++ behind) same ∙ ap (λ (b : List ℕ). name ++ b) (test.0 t))),
-     λ own. elim own [ inl alone ↦ absurd (not_alone alone)
-                     | inr with_index ↦ test.1 (same_parts front name behind (codes "[0]") (ap length same) (sym is ∙ with_index)).1 ])
+own_head_by_rest T name head front behind not_alone is same test = (
+  λ t. inr (is ∙ (ap (λ (f : List ℕ). f ++ behind) same ∙ ap (λ (b : List ℕ). name ++ b) (test.0 t))),
+  λ own. elim own [
+    | inl alone ↦ absurd (not_alone alone)
+    | inr with_index ↦ test.1 (same_parts front name behind (codes "[0]") (ap length same) (sym is ∙ with_index)).1
+  ],
+)
 
 pub own_head_other : (T : Type 0) (name head front behind : List ℕ) → (head ≡ name → ⊥) → head ≡ front ++ behind → length front ≡ length name → (front ≡ name → ⊥) →
     (T → ⊥) → T ↔ IsOwnHead name head
-own_head_other T name head front behind not_alone is long other never =
-    (λ t. absurd (never t),
-     λ own. elim own [ inl alone ↦ absurd (not_alone alone)
-                     | inr with_index ↦ absurd (other (same_parts front name behind (codes "[0]") long (sym is ∙ with_index)).0) ])
+own_head_other T name head front behind not_alone is long other never = (
+  λ t. absurd (never t),
+  λ own. elim own [
+    | inl alone ↦ absurd (not_alone alone)
+    | inr with_index ↦ absurd (other (same_parts front name behind (codes "[0]") long (sym is ∙ with_index)).0)
+  ],
+)

@@ -12,7 +12,15 @@ pub reads_pair : (text one other : List ℕ) (m l low high : ℕ) → IsCut text
     low ≡ min m l → high ≡ max m l → ReadsRange text (ends low high)
 reads_pair text one other m l low high cut (m', digits_m, held_m) (l', digits_l, held_l) is_low is_high =
     let range : IsRangeOf text (min m' l') (max m' l') = record {
-      one = one; other = other; m = m'; l = l'; spelled = cut.spelled; reads_m = digits_m; reads_l = digits_l; is_lo = refl; is_hi = refl;
+      one = one;
+      other = other;
+      m = m';
+      l = l';
+      spelled = cut.spelled;
+      reads_m = digits_m;
+      reads_l = digits_l;
+      is_lo = refl;
+      is_hi = refl;
     } in
     (ends (min m' l') (max m' l'), inr range, (omega arith, omega arith, omega arith))
 

@@ -47,10 +47,10 @@ pub left_goes_on : (text rest word behind gap after : List ℕ) (found : List (L
     IsSpan is_dark rest word behind → IsSpan is_white behind gap after → IsLeft text after (found ++ word ∷ [])
 left_goes_on text rest word behind gap after found some left s g = record {
   completes = λ more are.
-    let here : IsSpan is_white rest [] rest = record { spelled = refl; all = All-nil (λ b. is_white b ≡ true); stops = left.stops } in
-    let positive = some_word rest word behind some left.stops s in
-    let whole = left.completes (word ∷ more) ([], rest, behind, here, s, positive, words_behind behind gap after g more are) in
-    subst (AreWords text) (sym (append_assoc found (word ∷ []) more)) whole;
+      let here : IsSpan is_white rest [] rest = record { spelled = refl; all = All-nil (λ b. is_white b ≡ true); stops = left.stops } in
+      let positive = some_word rest word behind some left.stops s in
+      let whole = left.completes (word ∷ more) ([], rest, behind, here, s, positive, words_behind behind gap after g more are) in
+      subst (AreWords text) (sym (append_assoc found (word ∷ []) more)) whole;
   stops = g.stops;
 }
 

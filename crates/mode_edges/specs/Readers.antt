@@ -6,6 +6,7 @@ use Rattle.vtr_base.specs.Lists.{up_from}
 use Rattle.vtr_base.specs.Spans.{Lacks}
 use Rattle.mode_edges.specs.PinWords.{Index, AreDigits, IsRange, IsPart, Word, IsWord, own_pin, child_pin}
 use Rattle.mode_edges.specs.declared.pin.LocalPin.{LocalPin}
+use Rattle.mode_edges.specs.declared.pin.ChildAt.{ChildAt}
 use Rattle.mode_edges.specs.declared.names.Members.{Members}
 use Rattle.mode_edges.specs.declared.names.PinGroup.{PinGroup}
 use Rattle.mode_edges.specs.declared.names.Instances.{Instances}
@@ -47,6 +48,9 @@ ReadsWord text w = (index : Index) × IsWord text (word_with w index) × Stands 
 -- the members of a range, in order
 abbrev pub member_list : Members → List ℕ
 member_list m = up_from m.low (m.end - m.low)
+
+abbrev pub pin_of : Option ChildAt → ℕ → ℕ → LocalPin
+pin_of owner port bit = record { owner = owner; port = port; bit = bit }
 
 -- the pins of a port with these bits: instance by instance, and of each the bits
 abbrev pub pins_at : ℕ → List ℕ → Option Instances → List LocalPin

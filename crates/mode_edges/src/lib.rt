@@ -4,6 +4,7 @@
 
 mod names;
 mod pin;
+mod pins;
 mod split;
 mod word;
 

@@ -4,12 +4,10 @@ ghost use Rattle.mode_edges.specs.PinWords.{Index, AreMembers, IsOwnHead, IsOwnS
 ghost use Rattle.mode_edges.specs.Readers.{Stands, word_with, member_list, pins_of};
 ghost use Rattle.mode_edges.specs.declared.pin.LocalPin.{LocalPin};
 
-use std::alloc::AllocError;
-
-use arch_types::{Mode, PbType, Port, Side};
-
 use crate::pin::Role;
 use crate::word::{Ends, PinWord, part, word};
+use arch_types::{Mode, PbType, Port, Side};
+use std::alloc::AllocError;
 
 /// The members of a range: from `low` on, below `end`.
 #[derive(Clone, Copy, Debug, PartialEq, Eq)]
@@ -48,7 +46,12 @@ pub struct PinGroup {
 }
 
 /// What a pin word names, where it names pins on the right side for the role.
-pub(crate) fn named(block: &PbType, mode: &Mode, role: Role, text: &[u8]) -> Result<Option<PinGroup>, AllocError>
+pub(crate) fn named(
+    block: &PbType,
+    mode: &Mode,
+    role: Role,
+    text: &[u8],
+) -> Result<Option<PinGroup>, AllocError>
     ensures { IfOk result (λ r. MatchOption r ((pins : List LocalPin) → Names block.now mode.now role text.now pins → ⊥) (λ named. Names block.now mode.now role text.now (pins_of named))) }
 {
     let Some(word) = word(text) else {
@@ -79,7 +82,12 @@ fn named_own(block: &PbType, role: Role, word: &PinWord<'_>) -> Result<Option<Pi
 }
 
 /// What a word names of a child, where it doesn't bear the name of the block itself.
-fn named_child(block: &PbType, mode: &Mode, role: Role, word: &PinWord<'_>) -> Result<Option<PinGroup>, AllocError>
+fn named_child(
+    block: &PbType,
+    mode: &Mode,
+    role: Role,
+    word: &PinWord<'_>,
+) -> Result<Option<PinGroup>, AllocError>
     requires { IsOwnHead block.now.name word.now.head.now → ⊥ }
     ensures { IfOk result (λ r. MatchOption r ((index : Index) (pins : List LocalPin) → Stands word.now.bits index → NamesChild block.now mode.now role (word_with word.now index) pins → ⊥) (λ named. (index : Index) → Stands word.now.bits index → NamesChild block.now mode.now role (word_with word.now index) (pins_of named))) }
 {

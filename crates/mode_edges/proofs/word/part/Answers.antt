@@ -11,7 +11,7 @@ returns-in_err-last c =
 pub returns-then-last-ne93 : goal.returns-then-last-ne93
 returns-then-last-ne93 c =
     no_part_open c.args.text.now c.in-Some.name.now c.in-Some.behind.now c.in_ok-last.inside.now c.in_ok-last.last.now c.in-Some.ensures
-      c.in_ok-last.ensures.cases.0 c.if-last-ne93.true
+    c.in_ok-last.ensures.cases.0 c.if-last-ne93.true
 
 pub returns-in_err-ends : goal.returns-in_err-ends
 returns-in_err-ends c =
@@ -23,4 +23,4 @@ pub returns : goal.returns
 returns c =
     let closes = subst (λ last. c.in-Some.behind.now ≡ c.in_ok-last.inside.now ++ last ∷ []) c.if-last-ne93.false c.in_ok-last.ensures.cases.0 in
     reads_part c.args.text.now c.in-Some.name.now c.in-Some.behind.now c.in_ok-last.inside.now c.in_ok-ends.ends c.in-Some.ensures closes
-      c.in_ok-ends.ensures
+    c.in_ok-ends.ensures

@@ -19,4 +19,4 @@ returns-in_default c = reads_alone c.args.text.now c.in_ok-n.n c.in_ok-n.ensures
 pub returns : goal.returns
 returns c =
     reads_pair c.args.text.now c.in-Some.one.now c.in-Some.other.now c.in_ok-m.m c.in_ok-l.l c.min.result c.max.result c.in-Some.ensures
-      c.in_ok-m.ensures c.in_ok-l.ensures c.min.ensures c.max.ensures
+    c.in_ok-m.ensures c.in_ok-l.ensures c.min.ensures c.max.ensures
