@@ -7,3 +7,4 @@ mod WasRead
 mod OneMeaning
 mod Meanings
 mod NamesSoFar
+mod EdgeSets

@@ -2,6 +2,7 @@
 //! that they give, each owned by the first interconnect that gives it.
 #![tactic(auto)]
 
+mod found;
 mod names;
 mod pin;
 mod pins;

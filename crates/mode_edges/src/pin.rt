@@ -28,3 +28,10 @@ pub enum Role {
     Source,
     End,
 }
+
+/// The two ends of an edge.
+#[derive(Clone, Copy, Debug, PartialEq, Eq, Hash)]
+pub struct Pair {
+    pub src: LocalPin,
+    pub dst: LocalPin,
+}

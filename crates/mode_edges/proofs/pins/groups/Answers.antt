@@ -1,6 +1,6 @@
 use Rattle.std.specs.List.{flat_map}
 use Rattle.mode_edges.specs.Readers.{pins_of}
-use Rattle.mode_edges.proofs.NamesSoFar.{IsNamedTo, named_not, named_more, named_all}
+use Rattle.mode_edges.proofs.NamesSoFar.{named_not, named_more, named_all}
 use Rattle.mode_edges.proofs.pins.groups.Goals as goal
 
 pub returns-in_default : goal.returns-in_default
