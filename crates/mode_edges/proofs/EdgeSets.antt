@@ -207,7 +207,7 @@ same_owner block mode m n s d a b =
     let not_more : n < m → ⊥ = λ more. a.first n more b.gives in
     omega arith
 
-abbrev edge : LocalPin → LocalPin → ℕ → LocalEdge
+abbrev pub edge : LocalPin → LocalPin → ℕ → LocalEdge
 edge s d inter = record { src = s; dst = d; inter = inter }
 
 pub edges_all : (block : PbType) (mode : Mode) (n : ℕ) (edges : List LocalEdge) → length (inters_of mode) ≤ n → EdgesTo block mode n edges → AreEdges block mode edges

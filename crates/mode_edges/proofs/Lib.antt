@@ -8,3 +8,5 @@ mod OneMeaning
 mod Meanings
 mod NamesSoFar
 mod EdgeSets
+mod PairKeys
+mod Steps

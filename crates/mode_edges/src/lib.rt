@@ -2,6 +2,7 @@
 //! that they give, each owned by the first interconnect that gives it.
 #![tactic(auto)]
 
+mod edges;
 mod found;
 mod names;
 mod pin;
@@ -9,4 +10,5 @@ mod pins;
 mod split;
 mod word;
 
+pub use edges::{EdgeError, edges_of_mode};
 pub use pin::{ChildAt, LocalEdge, LocalPin, Role};

@@ -133,7 +133,7 @@ fn port_bits(ports: &[Port], word: &PinWord<'_>) -> Result<Option<SidedBits>, Al
 }
 
 /// A place in a list as a number of 32 bits. A list of more than 2^32 is told as want of memory.
-fn place_number(place: usize) -> Result<u32, AllocError>
+pub(crate) fn place_number(place: usize) -> Result<u32, AllocError>
     ensures { IfOk result (λ n. n ≡ place) }
 {
     match u32::try_from(place) {
