@@ -1,11 +1,10 @@
 -- Edges added one by one, and by all interconnects of a mode.
-use Rattle.std.proofs.Common.{◌≡◌, ◌<◌, ◌≤◌, ◌+◌, ◌⊎◌, inl, inr, ℕ, zero, suc, List, [], ◌∷◌, ◌++◌, Option, Some, None, length, slice_get, append_assoc, append-nil, refl, sym, ◌∙◌, ap, subst, arith}
+use Rattle.std.proofs.Common.{◌≡◌, ◌<◌, ◌≤◌, ◌+◌, ◌⊎◌, inl, inr, ℕ, zero, suc, List, [], ◌∷◌, ◌++◌, Some, length, slice_get, append_assoc, append-nil, refl, sym, ◌∙◌, ap, subst, arith}
 use Rattle.std.proofs.lemmas.Option.{slice_get_within}
 use Rattle.vtr_base.specs.Lists.{Has}
 use Rattle.arch_types.specs.declared.block.PbType.{PbType}
 use Rattle.arch_types.specs.declared.block.Mode.{Mode}
 use Rattle.arch_types.specs.declared.block.Inter.{Inter}
-use Rattle.arch_types.specs.declared.block.InterKind.{InterKind}
 use Rattle.arch_types.specs.Tree.{inters_of}
 use Rattle.mode_edges.specs.declared.pin.LocalPin.{LocalPin}
 use Rattle.mode_edges.specs.declared.pin.LocalEdge.{LocalEdge}
@@ -39,9 +38,10 @@ joined_more old more s d (e, h, src, dst) = (e, has_left old more e h, src, dst)
 
 once_push : (es : List LocalEdge) (e : LocalEdge) → IsOnce es → (Joined es e.src e.dst → ⊥) → IsOnce (es ++ e ∷ [])
 once_push [] e once none = (λ j. j.1, tt)
-once_push (x ∷ xs) e once none =
-    (λ j. elim (has_split xs (e ∷ []) j.0 j.1) [ inl there ↦ once.0 (j.0, there, j.2, j.3) | inr last ↦ same j last ],
-     once_push xs e once.1 (λ j. none (j.0, inr j.1, j.2, j.3)))
+once_push (x ∷ xs) e once none = (
+  λ j. elim (has_split xs (e ∷ []) j.0 j.1) [ inl there ↦ once.0 (j.0, there, j.2, j.3) | inr last ↦ same j last ],
+  once_push xs e once.1 (λ j. none (j.0, inr j.1, j.2, j.3)),
+)
   where
     same : (j : Joined (xs ++ e ∷ []) x.src x.dst) → Has (e ∷ []) j.0 → ⊥
     same j (inl is) = none (x, inl refl, sym j.2 ∙ ap (λ (f : LocalEdge). f.src) is, sym j.3 ∙ ap (λ (f : LocalEdge). f.dst) is)
@@ -63,8 +63,8 @@ adds_one old new e (inl (joined, same)) = record {
   is = same ∙ sym (append-nil old);
   given = λ f h. absurd h;
   covers = λ s d p.
-    let j = subst (λ (l : List LocalEdge). Joined l e.src e.dst) (sym same) joined in
-    (j.0, j.1, j.2 ∙ sym p.0, j.3 ∙ sym p.1);
+      let j = subst (λ (l : List LocalEdge). Joined l e.src e.dst) (sym same) joined in
+      (j.0, j.1, j.2 ∙ sym p.0, j.3 ∙ sym p.1);
   once = subst IsOnce (sym same);
 }
 adds_one old new e (inr (none, grown)) = record {
@@ -76,9 +76,11 @@ adds_one old new e (inr (none, grown)) = record {
 }
   where
     given : (f : LocalEdge) → Has (e ∷ []) f → (f.inter ≡ e.inter) × ((f.src ≡ e.src) × (f.dst ≡ e.dst)) × (Joined old f.src f.dst → ⊥)
-    given f (inl is) =
-        (ap (λ (x : LocalEdge). x.inter) is, (ap (λ (x : LocalEdge). x.src) is, ap (λ (x : LocalEdge). x.dst) is),
-         λ j. none (j.0, j.1, j.2 ∙ ap (λ (x : LocalEdge). x.src) is, j.3 ∙ ap (λ (x : LocalEdge). x.dst) is))
+    given f (inl is) = (
+      ap (λ (x : LocalEdge). x.inter) is,
+      (ap (λ (x : LocalEdge). x.src) is, ap (λ (x : LocalEdge). x.dst) is),
+      λ j. none (j.0, j.1, j.2 ∙ ap (λ (x : LocalEdge). x.src) is, j.3 ∙ ap (λ (x : LocalEdge). x.dst) is),
+    )
     given f (inr absent) = absurd absent
 
 pub adds_then : (old mid new : List LocalEdge) (inter : ℕ) (P Q : LocalPin → LocalPin → Type 0) → Adds old mid inter P → Adds mid new inter Q →
@@ -93,10 +95,12 @@ adds_then old mid new inter P Q a b = record {
   where
     from_first : (e : LocalEdge) → Has a.more e → (e.inter ≡ inter) × (P e.src e.dst ⊎ Q e.src e.dst) × (Joined old e.src e.dst → ⊥)
     from_first e h = let g = a.given e h in (g.0, inl g.1, g.2)
+
     from_second : (e : LocalEdge) → Has b.more e → (e.inter ≡ inter) × (P e.src e.dst ⊎ Q e.src e.dst) × (Joined old e.src e.dst → ⊥)
     from_second e h =
         let g = b.given e h in
         (g.0, inr g.1, λ j. g.2 (subst (λ (l : List LocalEdge). Joined l e.src e.dst) (sym a.is) (joined_more old a.more e.src e.dst j)))
+
     still : (s d : LocalPin) → Joined mid s d → Joined new s d
     still s d j = subst (λ (l : List LocalEdge). Joined l s d) (sym b.is) (joined_more mid b.more s d j)
 
@@ -142,23 +146,28 @@ pub edges_more : (block : PbType) (mode : Mode) (n : ℕ) (old new : List LocalE
     EdgesTo block mode (n + 1) new
 edges_more block mode n old new so_far adds = record {
   each = λ e h. elim (has_split old adds.more e (subst (λ (l : List LocalEdge). Has l e) adds.is h)) [ inl there ↦ kept e there | inr added ↦ fresh e added ];
-  covers = λ k s d less gives. elim (less_or_same k n less) [ inl before ↦ still s d (so_far.covers k s d before gives)
-    | inr same ↦ adds.covers s d (subst (λ (m : ℕ). Gives block mode m s d) same gives) ];
+  covers = λ k s d less gives. elim (less_or_same k n less) [
+    | inl before ↦ still s d (so_far.covers k s d before gives)
+    | inr same ↦ adds.covers s d (subst (λ (m : ℕ). Gives block mode m s d) same gives)
+  ];
   once = adds.once so_far.once;
   ascends = subst (Ascends 0) (sym adds.is)
-    (ascends_append 0 n old adds.more (omega arith) so_far.ascends (λ e h. (so_far.each e h).1) (λ e h. (adds.given e h).0));
+      (ascends_append 0 n old adds.more (omega arith) so_far.ascends (λ e h. (so_far.each e h).1) (λ e h. (adds.given e h).0));
 }
   where
     kept : (e : LocalEdge) → Has old e → IsEdge block mode e.inter e.src e.dst × (e.inter < n + 1)
     kept e h = let k = so_far.each e h in let less = k.1 in (k.0, omega arith)
+
     fresh : (e : LocalEdge) → Has adds.more e → IsEdge block mode e.inter e.src e.dst × (e.inter < n + 1)
     fresh e h =
         let g = adds.given e h in
         let is = g.0 in
         let edge : IsEdge block mode n e.src e.dst = record { gives = g.1; first = λ k less gives. g.2 (so_far.covers k e.src e.dst less gives) } in
         (subst (λ (m : ℕ). IsEdge block mode m e.src e.dst) (sym is) edge, omega arith)
+
     still : (s d : LocalPin) → Joined old s d → Joined new s d
     still s d j = subst (λ (l : List LocalEdge). Joined l s d) (sym adds.is) (joined_more old adds.more s d j)
+
     less_or_same : (k m : ℕ) → k < m + 1 → (k < m) ⊎ (k ≡ m)
     less_or_same k m less = grind arith
 
@@ -176,6 +185,16 @@ read_gives block mode n here ins outs is reads_ins reads_outs s d g =
     let outs_are = reads_one block mode End here.output g.outs outs (subst (λ (x : Inter). ReadsPins block mode End x.output g.outs) same g.reads_outs) reads_outs in
     subst (λ (x : Inter). IsPair x.kind ins outs s d) same
     (subst (λ (l : List LocalPin). IsPair g.here.kind l outs s d) ins_are (subst (λ (l : List LocalPin). IsPair g.here.kind g.ins l s d) outs_are g.pair))
+
+-- the pairs of the pins that were read, as what the interconnect gives
+pub adds_gives : (block : PbType) (mode : Mode) (n : ℕ) (here : Inter) (old new : List LocalEdge) (input output : List ℕ) (ins outs ins' outs' : List LocalPin) →
+    slice_get (inters_of mode) n ≡ Some here → input ≡ here.input → output ≡ here.output → ReadsPins block mode Source input ins → ReadsPins block mode End output outs →
+    ins' ≡ ins → outs' ≡ outs → Adds old new n (IsPair here.kind ins' outs') → Adds old new n (Gives block mode n)
+adds_gives block mode n here old new input output ins outs ins' outs' is in_is out_is reads_ins reads_outs same_ins same_outs adds =
+    let source = subst (λ (t : List ℕ). ReadsPins block mode Source t ins') in_is (subst (ReadsPins block mode Source input) (sym same_ins) reads_ins) in
+    let end = subst (λ (t : List ℕ). ReadsPins block mode End t outs') out_is (subst (ReadsPins block mode End output) (sym same_outs) reads_outs) in
+    adds_same old new n (IsPair here.kind ins' outs') (Gives block mode n) (gives_read block mode n here ins' outs' is source end)
+    (read_gives block mode n here ins' outs' is source end) adds
 
 once_at : (es : List LocalEdge) → IsOnce es → (i j : ℕ) (e f : LocalEdge) → slice_get es i ≡ Some e → slice_get es j ≡ Some f → e.src ≡ f.src → e.dst ≡ f.dst → i ≡ j
 once_at [] once i j e f at_i at_j s d = cc
@@ -214,13 +233,13 @@ pub edges_all : (block : PbType) (mode : Mode) (n : ℕ) (edges : List LocalEdge
 edges_all block mode n edges end so_far = record {
   each = λ e h. (so_far.each e h).0;
   all = λ inter s d is.
-    let inside = slice_get_within (inters_of mode) inter is.gives.here is.gives.is in
-    let j = so_far.covers inter s d (omega arith) is.gives in
-    let mine = (so_far.each j.0 j.1).0 in
-    let here = subst (λ (x : LocalPin). IsEdge block mode j.0.inter j.0.src x) j.3 mine in
-    let owner = same_owner block mode j.0.inter inter s d (subst (λ (x : LocalPin). IsEdge block mode j.0.inter x d) j.2 here) is in
-    let same = ap (λ (x : LocalPin). edge x j.0.dst j.0.inter) j.2 ∙ (ap (λ (x : LocalPin). edge s x j.0.inter) j.3 ∙ ap (λ (m : ℕ). edge s d m) owner) in
-    subst (λ (e : LocalEdge). Has edges e) same j.1;
+      let inside = slice_get_within (inters_of mode) inter is.gives.here is.gives.is in
+      let j = so_far.covers inter s d (omega arith) is.gives in
+      let mine = (so_far.each j.0 j.1).0 in
+      let here = subst (λ (x : LocalPin). IsEdge block mode j.0.inter j.0.src x) j.3 mine in
+      let owner = same_owner block mode j.0.inter inter s d (subst (λ (x : LocalPin). IsEdge block mode j.0.inter x d) j.2 here) is in
+      let same = ap (λ (x : LocalPin). edge x j.0.dst j.0.inter) j.2 ∙ (ap (λ (x : LocalPin). edge s x j.0.inter) j.3 ∙ ap (λ (m : ℕ). edge s d m) owner) in
+      subst (λ (e : LocalEdge). Has edges e) same j.1;
   once = once_at edges so_far.once;
   ordered = ordered_at 0 edges so_far.ascends;
 }

@@ -1,5 +1,5 @@
 -- A list of words, named one by one; and members of a range, one by one.
-use Rattle.std.proofs.Common.{◌≡◌, ◌<◌, ◌≤◌, ◌+◌, ◌-◌, ℕ, suc, List, [], ◌∷◌, ◌++◌, Bor, length, map, drop, take, get_or, append_assoc, append-nil, drop-cons, add-one, refl, sym, ◌∙◌, ap, subst, arith}
+use Rattle.std.proofs.Common.{◌≡◌, ◌<◌, ◌≤◌, ◌+◌, ◌-◌, ℕ, suc, List, [], ◌∷◌, ◌++◌, Bor, length, map, drop, get_or, append_assoc, append-nil, drop-cons, refl, sym, ◌∙◌, ap, subst, arith}
 use Rattle.std.specs.List.{flat_map}
 use Rattle.std.proofs.lemmas.List.Concat.{flat_map-append}
 use Rattle.std.proofs.Math.ListN.{drop_of_length-le}
@@ -26,7 +26,7 @@ one_more : (block : PbType) (mode : Mode) (role : Role) (texts rest : List (List
     IsNamedTo block mode role texts (text ∷ rest) found → Names block mode role text first → IsNamedTo block mode role texts rest (found ++ first)
 one_more block mode role texts rest text found first so_far names = record {
   completes = λ more are.
-    subst (NamesAll block mode role texts) (sym (append_assoc found first more)) (so_far.completes (first ++ more) (first, more, names, are, refl));
+      subst (NamesAll block mode role texts) (sym (append_assoc found first more)) (so_far.completes (first ++ more) (first, more, names, are, refl));
   back = λ pins are. let k = so_far.back pins are in let n = k.1 in (n.1, n.3);
 }
 

@@ -1,5 +1,5 @@
 -- Pairs as the keys of a map: `==` is equality, and a pair is a key where an edge joins its pins.
-use Rattle.std.proofs.Common.{◌≡◌, ◌++◌, ◌∷◌, [], List, ℕ, Bool, true, false, cond, ◌&&◌, ◌⊎◌, inl, inr, nat_eq, Option, Some, None, is_some, map, refl, sym, ◌∙◌, ap, subst, arith}
+use Rattle.std.proofs.Common.{◌≡◌, ◌∷◌, [], List, ℕ, Bool, true, false, cond, ◌&&◌, inl, inr, nat_eq, Option, Some, None, is_some, map, refl, sym, ◌∙◌, ap, subst, arith}
 use Rattle.std.specs.Option.{option_eq}
 use Rattle.std.specs.Map.{lookup}
 use Rattle.std.proofs.lemmas.Bool.Decides.{nat_tests}
@@ -81,7 +81,7 @@ owner_itself (Some x) = child_itself x
 pin_itself : (x : LocalPin) → same_pin x x ≡ true
 pin_itself x =
     and_both (option_eq same_child x.owner x.owner) (nat_eq x.port x.port && nat_eq x.bit x.bit) (owner_itself x.owner)
-      (and_both (nat_eq x.port x.port) (nat_eq x.bit x.bit) (nat_itself x.port) (nat_itself x.bit))
+    (and_both (nat_eq x.port x.port) (nat_eq x.bit x.bit) (nat_itself x.port) (nat_itself x.bit))
 
 pair_itself : (x : Pair) → same_pair x x ≡ true
 pair_itself x = and_both (same_pin x.src x.src) (same_pin x.dst x.dst) (pin_itself x.src) (pin_itself x.dst)
@@ -130,5 +130,7 @@ pub takes_pair : {S : Type 0} (m n : IndexMap Pair ℕ S) (p : Pair) (inter : �
 takes_pair m n p inter test is f grown =
     let none = none_is (get same_pair m p) (sym is ∙ f) in
     let last = grown ∙ insert_entry-new same_pair m p inter none in
-    inr (λ j. not_both (is_some (get same_pair m p)) (joined_key m.entries p j) (sym is ∙ f),
-      ap edges last ∙ map-append (λ entry. edge_of entry.0 entry.1) m.entries ((p, inter) ∷ []))
+    inr (
+      λ j. not_both (is_some (get same_pair m p)) (joined_key m.entries p j) (sym is ∙ f),
+      ap edges last ∙ map-append (λ entry. edge_of entry.0 entry.1) m.entries ((p, inter) ∷ []),
+    )

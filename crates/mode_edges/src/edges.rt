@@ -2,17 +2,16 @@ ghost use Rattle.std.specs.Prelude.{◌≡◌, Some, slice_get, IfOk, OnOk};
 ghost use Rattle.arch_types.specs.Tree.{inters_of};
 ghost use Rattle.mode_edges.specs.Edges.{AreEdges, Gives};
 ghost use Rattle.mode_edges.specs.Pairs.{edges_in, Adds};
-
-use std::alloc::{AllocError, Global};
-
-use arch_types::{Inter, Mode, PbType};
-use indexmap::IndexMap;
-use thiserror::Error;
+ghost use Rattle.mode_edges.specs.declared.edges.EdgeError.TheVariants.{OutOfMemory};
 
 use crate::found::add_pairs;
 use crate::names::place_number;
 use crate::pin::{LocalEdge, Pair, Role};
 use crate::pins::pins;
+use arch_types::{Inter, Mode, PbType};
+use indexmap::IndexMap;
+use std::alloc::{AllocError, Global};
+use thiserror::Error;
 
 /// Why the edges of a mode were not made.
 #[derive(Clone, Copy, Debug, PartialEq, Eq, Drop, Error)]
@@ -34,7 +33,11 @@ impl From<AllocError> for EdgeError {
 
 /// The edges of one mode of `block`: the pairs of pins that its interconnects give, each owned by
 /// the first interconnect that gives it (VTR architecture reference, "Interconnect").
-pub fn edges_of_mode(alloc: Global, block: &PbType, mode: &Mode) -> Result<Vec<LocalEdge>, EdgeError>
+pub fn edges_of_mode(
+    alloc: Global,
+    block: &PbType,
+    mode: &Mode,
+) -> Result<Vec<LocalEdge>, EdgeError>
     ensures { IfOk result (λ edges. AreEdges block.now mode.now edges.items) }
 {
     let mut found = IndexMap::new(alloc);
@@ -46,7 +49,14 @@ pub fn edges_of_mode(alloc: Global, block: &PbType, mode: &Mode) -> Result<Vec<L
 }
 
 /// Adds the pairs that one interconnect gives and that weren't there.
-fn add_inter(alloc: Global, found: &mut IndexMap<Pair, u32>, block: &PbType, mode: &Mode, inter: &Inter, number: u32) -> Result<(), EdgeError>
+fn add_inter(
+    alloc: Global,
+    found: &mut IndexMap<Pair, u32>,
+    block: &PbType,
+    mode: &Mode,
+    inter: &Inter,
+    number: u32,
+) -> Result<(), EdgeError>
     requires { slice_get (inters_of mode.now) number ≡ Some inter.now }
     ensures { OnOk result (Adds (edges_in found.old) (edges_in found.new) number (Gives block.now mode.now number)) }
 {

@@ -4,16 +4,20 @@ ghost use Rattle.mode_edges.specs.PinWords.{child_pin, NamesAll, ReadsPins};
 ghost use Rattle.mode_edges.specs.Readers.{member_list, pin_of, pins_of};
 ghost use Rattle.mode_edges.specs.declared.pin.LocalPin.{LocalPin};
 
-use std::alloc::{AllocError, Global};
-
-use arch_types::{Mode, PbType};
-
 use crate::names::{Instances, PinGroup, PortBits, named};
 use crate::pin::{ChildAt, LocalPin, Role};
 use crate::split::{bare, words};
+use arch_types::{Mode, PbType};
+use std::alloc::{AllocError, Global};
 
 /// The pins that a list of pin words names, where each word names pins on the right side.
-pub(crate) fn pins(alloc: Global, block: &PbType, mode: &Mode, role: Role, text: &[u8]) -> Result<Option<Vec<LocalPin>>, AllocError>
+pub(crate) fn pins(
+    alloc: Global,
+    block: &PbType,
+    mode: &Mode,
+    role: Role,
+    text: &[u8],
+) -> Result<Option<Vec<LocalPin>>, AllocError>
     ensures { IfOk result (λ r. MatchOption r ((pins : List LocalPin) → ReadsPins block.now mode.now role text.now pins → ⊥) (λ v. ReadsPins block.now mode.now role text.now v.items)) }
 {
     let plain = bare(alloc, text)?;
@@ -25,7 +29,13 @@ pub(crate) fn pins(alloc: Global, block: &PbType, mode: &Mode, role: Role, text:
 }
 
 /// What each word names, where each names pins on the right side.
-fn groups(alloc: Global, block: &PbType, mode: &Mode, role: Role, words: &[&[u8]]) -> Result<Option<Vec<PinGroup>>, AllocError>
+fn groups(
+    alloc: Global,
+    block: &PbType,
+    mode: &Mode,
+    role: Role,
+    words: &[&[u8]],
+) -> Result<Option<Vec<PinGroup>>, AllocError>
     ensures { IfOk result (λ r. MatchOption r ((pins : List LocalPin) → NamesAll block.now mode.now role (map (λ w. w.now) words.now) pins → ⊥) (λ v. NamesAll block.now mode.now role (map (λ w. w.now) words.now) (flat_map pins_of v.items))) }
 {
     let mut found = Vec::new(alloc);
@@ -71,7 +81,11 @@ fn push_instances(pins: &mut Vec<LocalPin>, of: Instances, bits: PortBits) -> Re
     Ok(())
 }
 
-fn push_bits(pins: &mut Vec<LocalPin>, owner: Option<ChildAt>, bits: PortBits) -> Result<(), AllocError>
+fn push_bits(
+    pins: &mut Vec<LocalPin>,
+    owner: Option<ChildAt>,
+    bits: PortBits,
+) -> Result<(), AllocError>
     ensures { OnOk result (pins.new.items ≡ pins.old.items ++ map (pin_of owner bits.port) (member_list bits.bits)) }
 {
     for bit in bits.bits.low..bits.bits.end {

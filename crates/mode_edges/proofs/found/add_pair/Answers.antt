@@ -7,4 +7,4 @@ returns-then-contains_key c = keeps_pair c.args.found.now c.args.pair c.args.int
 pub returns : goal.returns
 returns c =
     takes_pair c.args.found.now c.insert.new.self c.args.pair c.args.inter c.contains_key.result c.contains_key.ensures c.if-contains_key.false
-      c.in_ok-insert.ensures.entries
+    c.in_ok-insert.ensures.entries
