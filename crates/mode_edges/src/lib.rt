@@ -8,6 +8,8 @@ mod names;
 mod pin;
 mod pins;
 mod split;
+#[cfg(test)]
+mod tests;
 mod word;
 
 pub use edges::{EdgeError, edges_of_mode};
