@@ -64,6 +64,15 @@ one_number instances pins n m a mode p once_i once_p s t =
     let pbs : s.pb ≡ t.pb = once_i s.pb t.pb (owner_address a mode p.owner) s.is_instance t.is_instance in
     once_p n m (pin_at s.pb p.port p.bit) s.is_pin (t.is_pin ∙ ap (λ k. Some (pin_at k p.port p.bit)) (sym pbs))
 
+-- one place of a list has one element
+one_at : {X : Type 0} (xs : List X) (i j : ℕ) (x y : X) → i ≡ j → slice_get xs i ≡ Some x → slice_get xs j ≡ Some y → x ≡ y
+one_at xs i j x y e at_i at_j = let read = ap (λ k. slice_get xs k) e in cc
+
+one_mode : (b c : PbType) (i j : ℕ) (x y : Mode) → b ≡ c → i ≡ j → slice_get (modes_of b.kind) i ≡ Some x → slice_get (modes_of c.kind) j ≡ Some y → x ≡ y
+one_mode b c i j x y e f at_i at_j =
+    let lists : modes_of b.kind ≡ modes_of c.kind = ap (λ (p : PbType). modes_of p.kind) e in
+    one_at (modes_of c.kind) i j x y f (subst (λ ms. slice_get ms i ≡ Some x) lists at_i) at_j
+
 -- an edge that was added, with its local edge and its place among those added
 record IsAdded (instances : List Address) (pins : List PinAt) (owner mode : ℕ) (local : List LocalEdge) (k : ℕ) (e : Edge) : Type 0 where
   l : LocalEdge
@@ -138,9 +147,9 @@ module _ (blocks : List PbType) (instances : List Address) (pins : List PinAt) (
   -- an edge of this mode was added
   batch_has : (e : Edge) → IsMade blocks instances pins e → e.owner.0 ≡ n → e.mode ≡ m → Has adds.more e
   batch_has e is owner mode_same =
-      let here : is.block ≡ block = some_same (sym is.is_block ∙ ap (λ k. slice_get blocks k) owner ∙ is_block) in
-      let there : is.address ≡ address = some_same (sym is.is_owner ∙ ap (λ k. slice_get instances k) owner ∙ is_address) in
-      let modes : is.mode ≡ mode = some_same (sym is.is_mode ∙ ap (λ (b : PbType). slice_get (modes_of b.kind) e.mode) here ∙ ap (λ k. slice_get (modes_of block.kind) k) mode_same ∙ is_mode) in
+      let here : is.block ≡ block = one_at blocks e.owner.0 n is.block block owner is.is_block is_block in
+      let there : is.address ≡ address = one_at instances e.owner.0 n is.address address owner is.is_owner is_address in
+      let modes : is.mode ≡ mode = one_mode is.block block e.mode m is.mode mode here mode_same is.is_mode is_mode in
       let edge : IsEdge block mode e.inter is.src is.dst =
         subst (λ x. IsEdge block x e.inter is.src is.dst) modes (subst (λ b. IsEdge b is.mode e.inter is.src is.dst) here is.edge) in
       let has = are.all e.inter is.src is.dst edge in
@@ -154,9 +163,6 @@ module _ (blocks : List PbType) (instances : List Address) (pins : List PinAt) (
       let ends : placed.dst ≡ e.dst.0 = one_number instances pins placed.dst e.dst.0 address m is.dst once_i once_p (placed.at_dst address is_address) dst_there in
       let same : edge_at placed.src placed.dst n m e.inter ≡ edge_at e.src.0 e.dst.0 e.owner.0 e.mode e.inter = cc in
       has_at adds.more place.0 e (f.1 ∙ ap Some (placed.is ∙ same))
-    where
-      some_same : {X : Type 0} {x y : X} → Some x ≡ Some y → x ≡ y
-      some_same e = cc
 
   batch_all : (e : Edge) → IsMade blocks instances pins e → IsBefore n (m + 1) e → Has new e
   batch_all e is (inl low) = subst (λ es. Has es e) (sym adds.is) (has_left old adds.more e (before.all e is (inl low)))

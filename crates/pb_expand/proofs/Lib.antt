@@ -11,3 +11,4 @@ pub mod SetLemmas
 pub mod Numbers
 pub mod Batch
 pub mod EdgeList
+pub mod Tying

@@ -10,6 +10,8 @@ mod graph;
 mod number;
 mod places;
 mod rows;
+#[cfg(test)]
+mod tests;
 
 pub use error::ExpandError;
 pub use graph::{PbGraph, expand};
