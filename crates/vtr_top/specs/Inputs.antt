@@ -3,6 +3,7 @@ use Rattle.std.specs.Prelude.{◌≡◌, ◌≤◌, ◌⊎◌, ℕ, List, Option
 use Rattle.vtr_base.specs.Lists.{IsFirstPlace}
 use Rattle.vtr_base.specs.Outside.{Files, file, Told}
 use Rattle.arch_types.specs.declared.arch.Arch.{Arch}
+use Rattle.arch_types.specs.declared.block.PbType.{PbType}
 use Rattle.arch_files.specs.FirstForm.{SpellsArch}
 use Rattle.pb_expand.specs.Graph.{Graph}
 use Rattle.pb_expand.specs.Expansion.{IsExpansion}
@@ -21,8 +22,27 @@ pub record ReadsArch (files : Option Files) (name : List ℕ) (a : Arch) : Type 
   pub fetched : Fetched files name bytes
   pub spells : SpellsArch bytes a
 
+abbrev pub names_of : List PbType → List (List ℕ)
+names_of blocks = map (λ block. block.name) blocks
+
 abbrev pub block_names : Arch → List (List ℕ)
-block_names a = map (λ block. block.name) a.blocks
+block_names a = names_of a.blocks
+
+-- the graph of the block type of that number
+pub record IsGraphOf (a : Arch) (number : ℕ) (g : Graph) : Type 0 where
+  pub root : slice_get a.blocks number ≡ Some g.root
+  pub expansion : IsExpansion g
+
+-- the graphs of all block types, in their order
+pub record AreGraphs (a : Arch) (graphs : List Graph) : Type 0 where
+  pub all : length graphs ≡ length a.blocks
+  pub each : (number : ℕ) (g : Graph) → slice_get graphs number ≡ Some g → IsGraphOf a number g
+
+-- the lines of a programming that the bytes spell
+pub record IsTextOf (g : Graph) (bytes text : List ℕ) : Type 0 where
+  pub choices : Choices
+  pub spells : SpellsProg g bytes choices
+  pub lines : AreAnswers g choices (leaf_inputs g) text
 
 -- the word names the block type of that number
 abbrev pub NamesBlock : Arch → List ℕ → ℕ → Type 0
@@ -40,10 +60,7 @@ pub record IsTraced (files : Option Files) (arch block prog text : List ℕ) : T
   pub number : ℕ
   pub names : NamesBlock architecture block number
   pub graph : Graph
-  pub root : slice_get architecture.blocks number ≡ Some graph.root
-  pub expansion : IsExpansion graph
+  pub is_graph : IsGraphOf architecture number graph
   pub bytes : List ℕ
   pub fetched : Fetched files prog bytes
-  pub choices : Choices
-  pub spells : SpellsProg graph bytes choices
-  pub lines : AreAnswers graph choices (leaf_inputs graph) text
+  pub is_text : IsTextOf graph bytes text

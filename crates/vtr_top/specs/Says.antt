@@ -75,3 +75,9 @@ abbrev pub Answers : List (List ℕ) → Option Files → ℕ → ℕ → ℕ �
 Answers words files before after sink_before sink_after old new s =
     Printed words files before after s old new
     ⊎ ((s ≡ status.Outside) × Rose sink_before sink_after × CutOff words files before after old new)
+
+-- what a put of a status's text answers
+abbrev pub Puts : ℕ → ℕ → Option (List ℕ) → Option (List ℕ) → List ℕ → Status → Status → Type 0
+Puts sink_before sink_after old new text s result =
+    ((result ≡ s) × (new ≡ written text old))
+    ⊎ ((result ≡ status.Outside) × Rose sink_before sink_after × WrittenPart text old new)

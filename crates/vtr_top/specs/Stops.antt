@@ -1,6 +1,8 @@
 -- Why a command ended before its answer, and what is printed then.
 use Rattle.std.specs.Prelude.{◌≡◌, ◌⊎◌, ℕ, List, [], ◌∷◌, ◌++◌, Option, None, codes}
 use Rattle.vtr_base.specs.Outside.{Files, file, IsHeldLonger, Rose, Told}
+use Rattle.vtr_base.specs.declared.outside.ShelfError.{ShelfError}
+use Rattle.vtr_base.specs.declared.outside.ShelfError.TheVariants as shelf
 use Rattle.arch_types.specs.declared.arch.Arch.{Arch}
 use Rattle.vtr_top.specs.declared.stop.Stop.{Stop}
 use Rattle.vtr_top.specs.declared.stop.Stop.TheVariants.{Refused, Outside, Memory}
@@ -31,6 +33,31 @@ abbrev pub IsStop : Option Files → ℕ → ℕ → List ℕ → List ℕ → L
 IsStop files before after arch block prog (Refused name refusal) = IsRefusal files arch block prog name.now refusal
 IsStop files before after arch block prog (Outside name) = ((name.now ≡ arch) ⊎ (name.now ≡ prog)) × Rose before after
 IsStop files before after arch block prog Memory = Unit {0}
+
+-- a file that was fetched is of a form that isn't read yet, or memory ran out
+abbrev pub IsFormStop : List ℕ → Form → Stop → Type 0
+IsFormStop file form (Refused name (NotBuilt what)) = (name.now ≡ file) × (what ≡ form)
+IsFormStop file form (Refused name refusal) = ⊥
+IsFormStop file form (Outside name) = ⊥
+IsFormStop file form Memory = Unit {0}
+
+-- a file was not fetched
+abbrev pub IsUnfetched : Option Files → ℕ → ℕ → List ℕ → Stop → Type 0
+IsUnfetched files before after wanted (Refused name TooLong) = (name.now ≡ wanted) × Told files (λ m. IsHeldLonger m wanted 67108864)
+IsUnfetched files before after wanted (Refused name Missing) = (name.now ≡ wanted) × Told files (λ m. file m wanted ≡ None)
+IsUnfetched files before after wanted (Refused name (NoBlockType word)) = ⊥
+IsUnfetched files before after wanted (Refused name (NotBuilt form)) = ⊥
+IsUnfetched files before after wanted (Outside name) = (name.now ≡ wanted) × Rose before after
+IsUnfetched files before after wanted Memory = Unit {0}
+
+-- what a shelf's refusal stands for
+abbrev pub IsStopOf : List ℕ → ShelfError → Stop → Type 0
+IsStopOf wanted error (Refused name TooLong) = (name.now ≡ wanted) × (error ≡ shelf.TooLong)
+IsStopOf wanted error (Refused name Missing) = (name.now ≡ wanted) × (error ≡ shelf.Missing)
+IsStopOf wanted error (Refused name (NoBlockType word)) = ⊥
+IsStopOf wanted error (Refused name (NotBuilt form)) = ⊥
+IsStopOf wanted error (Outside name) = (name.now ≡ wanted) × (error ≡ shelf.Failed)
+IsStopOf wanted error Memory = error ≡ shelf.OutOfMemory
 
 abbrev pub form_text : Form → List ℕ
 form_text Architecture = codes "architecture"

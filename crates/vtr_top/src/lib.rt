@@ -1,10 +1,14 @@
 //! The commands of the program: their words, their inputs in turn, and what they print.
 #![tactic(auto)]
 
+mod fetch;
 mod lines;
 mod print;
+mod command;
 mod status;
 mod stop;
+mod trace;
 mod words;
 
+pub use command::run;
 pub use status::Status;

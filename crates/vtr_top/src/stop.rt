@@ -1,3 +1,6 @@
+use crate::Status;
+use std::alloc::{AllocError, AllocFailed};
+
 /// Why a command ended before its answer.
 #[derive(Clone, Copy)]
 pub enum Stop<'w> {
@@ -7,6 +10,22 @@ pub enum Stop<'w> {
     Outside { file: &'w str },
     /// Memory ran out.
     Memory,
+}
+
+impl Stop<'_> {
+    ghost use Rattle.std.specs.Prelude.{◌≡◌};
+    ghost use Rattle.vtr_top.specs.Says.{status_of};
+
+    /// The status of a run that ends so.
+    pub fn status(&self) -> Status
+        ensures { result ≡ status_of self.now }
+    {
+        match self {
+            Stop::Refused { .. } => Status::Refused,
+            Stop::Outside { .. } => Status::Outside,
+            Stop::Memory => Status::Memory,
+        }
+    }
 }
 
 /// Why a file was refused.
@@ -27,4 +46,26 @@ pub enum Refusal<'w> {
 pub enum Form {
     Architecture,
     Programming,
+}
+
+impl<'w> From<AllocError> for Stop<'w> {
+    ghost use Rattle.std.specs.Prelude.{◌≡◌};
+    ghost use Rattle.vtr_top.specs.declared.stop.Stop.TheVariants.{Memory};
+
+    ghost from_gives = { λ _ e. e ≡ Memory };
+
+    fn from(_e: AllocError) -> Stop<'w> {
+        Stop::Memory
+    }
+}
+
+impl<'w, T: Drop> From<AllocFailed<T>> for Stop<'w> {
+    ghost use Rattle.std.specs.Prelude.{◌≡◌};
+    ghost use Rattle.vtr_top.specs.declared.stop.Stop.TheVariants.{Memory};
+
+    ghost from_gives = { λ _ e. e ≡ Memory };
+
+    fn from(_e: AllocFailed<T>) -> Stop<'w> {
+        Stop::Memory
+    }
 }

@@ -1,0 +1,42 @@
+ghost use Rattle.std.specs.Prelude.{◌≡◌, ◌≤◌, IfOk, IfErr};
+ghost use Rattle.vtr_top.specs.Inputs.{Fetched};
+ghost use Rattle.vtr_top.specs.Stops.{IsUnfetched};
+
+use crate::stop::{Refusal, Stop};
+use std::alloc::Global;
+use vtr_base::{Shelf, ShelfError};
+
+/// How many bytes an input file may have.
+const ROOM: u64 = 67_108_864;
+
+/// Fetches an input file.
+pub fn fetch<'w, S: Shelf>(alloc: Global, file: &'w str, shelf: &mut S) -> Result<Vec<u8>, Stop<'w>>
+    ensures held { S.files shelf.new ≡ S.files shelf.old }
+    ensures count { S.faults shelf.old ≤ S.faults shelf.new }
+    ensures fetched { IfOk result (λ bytes. Fetched (S.files shelf.old) file.now bytes.items) }
+    ensures stopped { IfErr result (IsUnfetched (S.files shelf.old) (S.faults shelf.old) (S.faults shelf.new) file.now) }
+{
+    let mut bytes = Vec::new(alloc);
+    match shelf.fetch(file, ROOM, &mut bytes) {
+        Ok(()) => Ok(bytes),
+        Err(error) => Err(unfetched(file, error)),
+    }
+}
+
+/// Why a file was not fetched.
+fn unfetched(file: &str, error: ShelfError) -> Stop<'_>
+    ensures { IsStopOf file.now error result }
+{
+    match error {
+        ShelfError::Missing => Stop::Refused {
+            file,
+            refusal: Refusal::Missing,
+        },
+        ShelfError::TooLong => Stop::Refused {
+            file,
+            refusal: Refusal::TooLong,
+        },
+        ShelfError::Failed => Stop::Outside { file },
+        ShelfError::OutOfMemory => Stop::Memory,
+    }
+}
