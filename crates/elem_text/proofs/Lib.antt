@@ -7,3 +7,7 @@ pub mod Comments
 pub mod Frames
 pub mod Stacks
 pub mod Along
+pub mod Classes
+pub mod Flawed
+pub mod TagFlaws
+pub mod PieceFlaws
