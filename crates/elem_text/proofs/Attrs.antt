@@ -100,7 +100,7 @@ attr_no_tail : (b n raw after more : List ℕ) (empty : Bool) (rest : List ℕ) 
 attr_no_tail [] n raw after more empty rest a e = attr_some [] n raw after a refl
 attr_no_tail (x ∷ b) n raw after more empty rest a e = false≢true (sym (tail_first x (b ++ more) empty rest e) ∙ attr_letter x b n raw after a)
 
-attr_same : (x a : Attr) → x.name ≡ a.name → x.value ≡ a.value → x ≡ a
+pub attr_same : (x a : Attr) → x.name ≡ a.name → x.value ≡ a.value → x ≡ a
 attr_same x a n v =
     let P : List ℕ → Type 0 = λ t. record { name = t; value = x.value } ≡ a in
     let Q : List ℕ → Type 0 = λ t. record { name = a.name; value = t } ≡ a in

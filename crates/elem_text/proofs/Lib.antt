@@ -11,3 +11,5 @@ pub mod Classes
 pub mod Flawed
 pub mod TagFlaws
 pub mod PieceFlaws
+pub mod Complete
+pub mod OneLex

@@ -66,7 +66,7 @@ pub instruction_open : (b : List ℕ) → None ≡ behind_instruction b → IsFl
 instruction_open b e = (63 ∷ 62 ∷ [], omega arith, record { inside = b ++ 63 ∷ 62 ∷ []; mark = refl; ends = instruction_closing b (sym e) })
 
 -- the second byte tells which piece it is
-no_run : (b raw rest : List ℕ) → IsRun (60 ∷ b) raw rest → ⊥
+pub no_run : (b raw rest : List ℕ) → IsRun (60 ∷ b) raw rest → ⊥
 no_run b [] rest r = r.some refl
 no_run b (y ∷ raw) rest r =
     let e : 60 ≡ y = heads r.span.spelled in

@@ -1,4 +1,4 @@
-ghost use Rattle.std.specs.Prelude.{◌≡◌, ◌∷◌, ◌<◌, ◌+◌, ◌&&◌, ◌==◌, ℕ, List, Bool, IfOk, IfErr, IsUtf8, length, slice_index};
+ghost use Rattle.std.specs.Prelude.{◌≡◌, ◌∷◌, ◌<◌, ◌+◌, ◌&&◌, ◌==◌, ℕ, List, Bool, IfOk, IfErr, OnErr, IsUtf8, length, slice_index};
 ghost use Rattle.std.specs.Option.{option_map};
 ghost use Rattle.vtr_base.specs.declared.place.Place.{Place};
 ghost use Rattle.elem_text.specs.Grammar.{IsComment, IsInstruction, IsLex, behind_comment, behind_instruction};
@@ -107,6 +107,7 @@ pub fn piece(alloc: Global, bytes: &[u8]) -> Result<(Lex<'_>, &[u8]), Flaw>
     ensures whole { IfOk result (λ r. (at : Place) → IsLex at bytes.now (lexed at r.0) r.1.now) }
     ensures utf8 { IfOk result (λ r. IsUtf8Lex r.0 × IsUtf8 r.1.now) }
     ensures flaw { IfErr result (λ f. IsFlawOf APiece f bytes.now) }
+    ensures angle { OnErr result ((inside : List ℕ) × (bytes.now ≡ 60 ∷ inside)) }
 {
     if let Some(inside) = byte(bytes, b'<') {
         return behind_angle(alloc, inside);
