@@ -95,7 +95,7 @@ lex_front at b (closes n) rest l = end_front b n rest l
 lex_front at b (run raw) rest l = record { front = raw; spelled = l.span.spelled; some = some_front raw l.some }
 lex_front at b skip rest l = ⊎_elim (comment_front b rest) (instruction_front b rest) l
 
-reads_push : (at : Place) (b : List ℕ) (ps : List Piece) (end : Place) (rest : List ℕ) (front later : List ℕ) (p : Piece) →
+pub reads_push : (at : Place) (b : List ℕ) (ps : List Piece) (end : Place) (rest : List ℕ) (front later : List ℕ) (p : Piece) →
     Reads at b ps end rest → rest ≡ front ++ later → IsLex end rest p later → Reads at b (ps ++ p ∷ []) (place_after end front) later
 reads_push at b [] end rest front later p r e l =
     let P : List ℕ → Type 0 = λ x. IsLex end x p later in

@@ -13,3 +13,5 @@ pub mod TagFlaws
 pub mod PieceFlaws
 pub mod Complete
 pub mod OneLex
+pub mod OneAnswer
+pub mod Depth

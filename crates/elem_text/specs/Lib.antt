@@ -7,3 +7,4 @@ pub mod Next
 pub mod Stack
 pub mod Flaws
 pub mod Refusals
+pub mod Laws

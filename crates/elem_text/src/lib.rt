@@ -6,6 +6,7 @@
 mod bytes;
 mod elem;
 mod error;
+mod laws;
 mod lex;
 mod pieces;
 mod reader;
@@ -17,4 +18,5 @@ mod tests;
 
 pub use elem::{Attr, Elem};
 pub use error::ElemError;
+pub use laws::laws_of_the_grammar;
 pub use reader::read_elems;

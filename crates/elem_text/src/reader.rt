@@ -1,7 +1,7 @@
 ghost use Rattle.std.specs.Prelude.{◌≡◌, ◌∷◌, ◌++◌, ◌<◌, ℕ, List, true, false, IfOk, IfErr, OnOk, IsErrOf, IsUtf8, MatchOption, length, drop};
 ghost use Rattle.elem_text.specs.Grammar.{IsFile, Spells, has_mark};
 ghost use Rattle.elem_text.specs.Lexed.{lexed, IsUtf8Lex};
-ghost use Rattle.elem_text.specs.Refusals.{Refuses, RefusesFrom, TellsFlaw, TellsRefusal};
+ghost use Rattle.elem_text.specs.Refusals.{IsTooDeep, DeepensFrom, Refuses, RefusesFrom, TellsFlaw, TellsRefusal};
 ghost use Rattle.elem_text.specs.Stack.{stack_of, IsAllowed, IsTooDeepFor, IsShallowFor, next};
 
 use crate::bytes::{byte, place_after};
@@ -16,6 +16,7 @@ use vtr_base::Place;
 /// The root element of a file of element text.
 pub fn read_elems(alloc: Global, bytes: &[u8]) -> Result<Elem, ElemError>
     ensures found { IfOk result (λ e. Spells bytes.now e) }
+    ensures shallow { OnOk result (IsTooDeep bytes.now → ⊥) }
     ensures refused { IfErr result (λ e. Refuses bytes.now e) }
 {
     let Ok(_) = str::from_utf8(bytes) else {
@@ -44,6 +45,7 @@ fn behind_mark(bytes: &[u8]) -> Option<&[u8]>
 fn read_body(alloc: Global, bytes: &[u8], start: Place) -> Result<Elem, ElemError>
     requires { IsUtf8 bytes.now }
     ensures found { IfOk result (λ e. IsFile start bytes.now e) }
+    ensures shallow { OnOk result (DeepensFrom start bytes.now → ⊥) }
     ensures refused { IfErr result (λ e. RefusesFrom start bytes.now e) }
 {
     let mut opened = Opened::new(alloc);

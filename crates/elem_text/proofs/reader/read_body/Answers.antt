@@ -1,6 +1,7 @@
 use Rattle.std.proofs.Common.{Err, ◌≡◌, ◌<◌, ap, sym, ◌∙◌, arith, length, length-append}
 use Rattle.elem_text.proofs.Spans.{nothing_in}
 use Rattle.elem_text.proofs.Along.{lex_front, along_next, along_found, along_flaw, along_refused, along_short}
+use Rattle.elem_text.proofs.Depth.{along_shallow}
 use Rattle.elem_text.proofs.reader.read_body.Goals as goal
 
 pub front_of-requires : goal.front_of-requires
@@ -36,3 +37,7 @@ returns-in-Err-take-clause-refused c =
 pub returns-in-None-clause-refused : goal.returns-in-None-clause-refused
 returns-in-None-clause-refused c =
     along_short _ _ _ _ _ c.loop-rest.invariant.along (nothing_in _ (sym c.is_empty.ensures ∙ c.loop-rest-test.false)) c.in-None.ensures
+
+pub returns-in-Some-clause-shallow : goal.returns-in-Some-clause-shallow
+returns-in-Some-clause-shallow c =
+    along_shallow _ _ _ _ _ c.loop-rest.invariant.along (nothing_in _ (sym c.is_empty.ensures ∙ c.loop-rest-test.false))
