@@ -150,13 +150,23 @@ pub along_flaw : (start : Place) (bytes : List ℕ) (place : Place) (rest : List
 along_flaw start bytes place rest s Cut e a h i t =
     let P : ElemError → Type 0 = λ x. RefusesFrom start bytes x in
     subst P (sym t) (record {
-      ps = a.ps; at = place; rest = rest; reads = a.reads; fits = fits_so_far a.ps a.allowed; shallow = a.shallow;
+      ps = a.ps;
+      at = place;
+      rest = rest;
+      reads = a.reads;
+      fits = fits_so_far a.ps a.allowed;
+      shallow = a.shallow;
       fails = cut (begun_by 60 [] i.0 rest i.1) (is_cut place rest i.0 i.1 h.0 h.1 h.2);
     })
 along_flaw start bytes place rest s Bad e a h i t =
     let P : ElemError → Type 0 = λ x. RefusesFrom start bytes x in
     subst P (sym t) (record {
-      ps = a.ps; at = place; rest = rest; reads = a.reads; fits = fits_so_far a.ps a.allowed; shallow = a.shallow;
+      ps = a.ps;
+      at = place;
+      rest = rest;
+      reads = a.reads;
+      fits = fits_so_far a.ps a.allowed;
+      shallow = a.shallow;
       fails = unread (begun_by 60 [] i.0 rest i.1) (λ more p r l. h more r (place, p, l));
     })
 along_flaw start bytes place rest s no_memory e a h i t = let P : ElemError → Type 0 = λ x. RefusesFrom start bytes x in subst P (sym t) tt
@@ -168,7 +178,12 @@ along_refused start bytes place rest s p behind not_allowed e a l n d t =
     let P : ElemError → Type 0 = λ x. RefusesFrom start bytes x in
     let Q : Stack → Type 0 = λ x. IsAllowed x p in
     subst P (sym t) (record {
-      ps = a.ps; at = place; rest = rest; reads = a.reads; fits = fits_so_far a.ps a.allowed; shallow = a.shallow;
+      ps = a.ps;
+      at = place;
+      rest = rest;
+      reads = a.reads;
+      fits = fits_so_far a.ps a.allowed;
+      shallow = a.shallow;
       fails = wrong p behind l (stuck a.ps p (λ h. n refl (subst Q a.to h)));
     })
 along_refused start bytes place rest s p behind deeper e a l n d t =
@@ -176,7 +191,14 @@ along_refused start bytes place rest s p behind deeper e a l n d t =
     let Q : Stack → Type 0 = λ x. IsTooDeepFor x p in
     let deep : IsTooDeepFor (after outside a.ps) p = subst Q (sym a.to) (d refl) in
     subst P (sym t) (record {
-      ps = a.ps; at = place; rest = rest; piece = p; behind = behind; reads = a.reads; lex = l; shallow = a.shallow;
+      ps = a.ps;
+      at = place;
+      rest = rest;
+      piece = p;
+      behind = behind;
+      reads = a.reads;
+      lex = l;
+      shallow = a.shallow;
       fits = fits_so_far (a.ps ++ p ∷ []) (allowed_push outside a.ps p a.allowed (allowed_deep (after outside a.ps) p deep));
       deep = too_deep a.ps p deep;
     })
@@ -187,6 +209,11 @@ pub along_short : (start : Place) (bytes : List ℕ) (place : Place) (rest : Lis
 along_short start bytes place rest s a n u =
     let Q : Stack → Type 0 = λ x. IsUnfinished x in
     record {
-      ps = a.ps; at = place; rest = rest; reads = a.reads; fits = fits_so_far a.ps a.allowed; shallow = a.shallow;
+      ps = a.ps;
+      at = place;
+      rest = rest;
+      reads = a.reads;
+      fits = fits_so_far a.ps a.allowed;
+      shallow = a.shallow;
       fails = short n (λ e d. unfinished a.ps e (subst Q (sym a.to) u) d);
     }

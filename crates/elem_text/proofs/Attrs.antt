@@ -111,7 +111,7 @@ attr_same x a n v =
 pub record Reading (all : List ℕ) (done : List Attr) (left : List ℕ) : Type 0 where
   pub on : (more : List ℕ) (attrs : List Attr) (x : List ℕ) → Attributes done (left ++ more) attrs x → Attributes [] (all ++ more) (done ++ attrs) x
   pub back : (more : List ℕ) (attrs : List Attr) (empty : Bool) (rest : List ℕ) → Attributes [] (all ++ more) attrs (tail_of empty rest) →
-    (later : List Attr) × (attrs ≡ done ++ later) × Attributes done (left ++ more) later (tail_of empty rest)
+      (later : List Attr) × (attrs ≡ done ++ later) × Attributes done (left ++ more) later (tail_of empty rest)
 
 -- what follows an attribute that was read
 back_one : (done : List Attr) (left gap rest raw after : List ℕ) (a : Attr) (more : List ℕ) (later : List Attr) (empty : Bool) (end : List ℕ) →

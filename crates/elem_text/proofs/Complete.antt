@@ -75,8 +75,8 @@ passes _ _ _ (node n a at inner own below ps rs ks ci c) f gs m =
     let k = grow_kid f gs rs e ks m in
     let after_kid = passes_to _ _ _ ps (passes ps rs ks c (with_kid f e) gs k.1) (ap (λ x. record { top = x; below = gs }) (grown_more f e rs ks)) in
     passes_one _ _ (opens n a at) (inner ++ closes n ∷ ps) k.0
-      (passes_append _ _ _ inner (closes n ∷ ps) (passes inner own below ci (frame n a at) (f ∷ gs) tt)
-        (passes_one _ _ (closes n) ps refl after_kid))
+    (passes_append _ _ _ inner (closes n ∷ ps) (passes inner own below ci (frame n a at) (f ∷ gs) tt)
+    (passes_one _ _ (closes n) ps refl after_kid))
 
 pub complete : (ps : List Piece) (e : Elem) (d : IsDocument ps e) → Passes outside ps (record { top = grown outside.top d.around (e ∷ []); below = [] })
 complete ps e d = passes ps d.around (e ∷ []) d.content outside.top [] (d.white, omega arith)
@@ -109,6 +109,7 @@ fits f [] ps b = by_kids f.kids b.1 b.3
   where
     a_root : Elem
     a_root = elem (97 ∷ []) [] [] [] first_place
+
     by_kids : (kids : List Elem) → Content ps b.0 kids → length kids ≤ 1 → Fits ps
     by_kids [] c l =
         let P : List (List ℕ) → Type 0 = λ r. AreWhite r in

@@ -65,26 +65,39 @@ quote_ended b h k OutOfMemory e = absurd e
 -- no quote stands at the front
 pub quoted_by_quote : (b : List ℕ) (f : Flaw) → IsFlawOf AQuote f b → IsFlawOf AQuoted f b
 quoted_by_quote b f h = flaw_map AQuote AQuoted b b
-    (λ more n q. (more ++ q.0 ∷ [], omega (arith, length-append more (q.0 ∷ [])),
-      ([], record {
-        quote = q.0;
-        inside = q.0 ∷ [];
-        mark = sym (append_assoc b more (q.0 ∷ [])) ∙ ap (λ l. l ++ q.0 ∷ []) q.1;
-        is_quote = q.2;
-        span = record { spelled = refl; all = tt; stops = is_not_same q.0 };
-      })))
+    (λ more n q. (
+      more ++ q.0 ∷ [],
+      omega (arith, length-append more (q.0 ∷ [])),
+      (
+        [],
+        record {
+          quote = q.0;
+          inside = q.0 ∷ [];
+          mark = sym (append_assoc b more (q.0 ∷ [])) ∙ ap (λ l. l ++ q.0 ∷ []) q.1;
+          is_quote = q.2;
+          span = record { spelled = refl; all = tt; stops = is_not_same q.0 };
+        },
+      ),
+    ))
     (λ bad more rest q. bad more q.1.inside (q.1.quote, q.1.mark, q.1.is_quote)) f h
 
 -- the second quote is missing
 pub quoted_open : (b : List ℕ) (q : ℕ) (inside raw rest : List ℕ) → b ≡ q ∷ inside → IsQuote q → IsSpan (is_not q) inside raw rest → ((t : List ℕ) → rest ≡ q ∷ t → ⊥) →
     IsFlawOf AQuoted Cut b
-quoted_open b q inside raw [] m i s h = (q ∷ [], omega arith, (raw, record {
-  quote = q;
-  inside = inside ++ q ∷ [];
-  mark = ap (λ l. l ++ q ∷ []) m;
-  is_quote = i;
-  span = span_join (is_not q) inside raw [] (q ∷ []) s (is_not_same q);
-}))
+quoted_open b q inside raw [] m i s h = (
+  q ∷ [],
+  omega arith,
+  (
+    raw,
+    record {
+      quote = q;
+      inside = inside ++ q ∷ [];
+      mark = ap (λ l. l ++ q ∷ []) m;
+      is_quote = i;
+      span = span_join (is_not q) inside raw [] (q ∷ []) s (is_not_same q);
+    },
+  ),
+)
 quoted_open b q inside raw (x ∷ rest) m i s h = absurd (h rest (ap (λ y. y ∷ rest) (is_same x s.stops)))
   where
     is_same : (x : ℕ) → is_not q x ≡ false → x ≡ q
@@ -132,25 +145,33 @@ pub attr_done : (before : List Attr) (b n : List ℕ) → IsNamed b n [] → IsF
 attr_done before b n s =
     let ext = replicate (suc (total before)) 97 in
     let t = 61 ∷ 34 ∷ 34 ∷ [] in
-    let e : length ext ≡ suc (total before) = length-replicate (suc (total before)) 97 in
-    (ext ++ t, omega (arith, length-append ext t, e), (n ++ ext, [], record {
-      left = [];
-      right = [];
-      at_left = t;
-      at_right = 34 ∷ 34 ∷ [];
-      at_quote = 34 ∷ 34 ∷ [];
-      named = record {
-        span = record {
-          spelled = ap (λ l. l ++ (ext ++ t)) (s.span.spelled ∙ append-nil n) ∙ sym (append_assoc n ext t);
-          all = all_append is_name_byte n ext s.span.all (all_97 (suc (total before)));
-          stops = name_61;
-        };
-        letter = letter_append n ext s.letter;
-      };
-      before_sign = white_none t white_61;
-      behind_sign = white_none (34 ∷ 34 ∷ []) (white_quote 34 (inl refl));
-      quoted = quoted_empty;
-    }, long_fresh before (n ++ ext) (omega (arith, length-append n ext, e))))
+    let e : length ext ≡ suc (total before) = length-replicate (suc (total before)) 97 in (
+      ext ++ t,
+      omega (arith, length-append ext t, e),
+      (
+        n ++ ext,
+        [],
+        record {
+          left = [];
+          right = [];
+          at_left = t;
+          at_right = 34 ∷ 34 ∷ [];
+          at_quote = 34 ∷ 34 ∷ [];
+          named = record {
+            span = record {
+              spelled = ap (λ l. l ++ (ext ++ t)) (s.span.spelled ∙ append-nil n) ∙ sym (append_assoc n ext t);
+              all = all_append is_name_byte n ext s.span.all (all_97 (suc (total before)));
+              stops = name_61;
+            };
+            letter = letter_append n ext s.letter;
+          };
+          before_sign = white_none t white_61;
+          behind_sign = white_none (34 ∷ 34 ∷ []) (white_quote 34 (inl refl));
+          quoted = quoted_empty;
+        },
+        long_fresh before (n ++ ext) (omega (arith, length-append n ext, e)),
+      ),
+    )
 
 pub attr_by_name : (before : List Attr) (b : List ℕ) (f : Flaw) → IsFlawOf ANamed f b → IsFlawOf (AnAttr before) f b
 attr_by_name before b f h = flaw_map ANamed (AnAttr before) b b
@@ -170,23 +191,31 @@ attr_twice before b n r s e h = λ more rest a.
 pub attr_by_sign : (before : List Attr) (b n r : List ℕ) → IsNamed b n r → (r ≡ [] → ⊥) → (HasName before n → ⊥) → (f : Flaw) → IsFlawOf (ASign 61) f r → IsFlawOf (AnAttr before) f b
 attr_by_sign before b n r s e fresh f h = flaw_map (ASign 61) (AnAttr before) r b
     (λ more l g.
-      let q = 34 ∷ 34 ∷ [] in
-      let more' = more ++ q in
-      let P : List ℕ → Type 0 = λ x. IsSpan is_white x g.0 (61 ∷ q) in
-      (more', omega (arith, length-append more q), (n, [], record {
-        left = g.0;
-        right = [];
-        at_left = r ++ more';
-        at_right = q;
-        at_quote = q;
-        named = named_more b n r more' s e;
-        before_sign = subst P (append_assoc r more q) (span_more is_white (r ++ more) g.0 (61 ∷ []) q g.1 (begun_by 61 [] [] (61 ∷ []) refl));
-        behind_sign = white_none q (white_quote 34 (inl refl));
-        quoted = quoted_empty;
-      }, fresh)))
+    let q = 34 ∷ 34 ∷ [] in
+    let more' = more ++ q in
+    let P : List ℕ → Type 0 = λ x. IsSpan is_white x g.0 (61 ∷ q) in (
+      more',
+      omega (arith, length-append more q),
+      (
+        n,
+        [],
+        record {
+          left = g.0;
+          right = [];
+          at_left = r ++ more';
+          at_right = q;
+          at_quote = q;
+          named = named_more b n r more' s e;
+          before_sign = subst P (append_assoc r more q) (span_more is_white (r ++ more) g.0 (61 ∷ []) q g.1 (begun_by 61 [] [] (61 ∷ []) refl));
+          behind_sign = white_none q (white_quote 34 (inl refl));
+          quoted = quoted_empty;
+        },
+        fresh,
+      ),
+    ))
     (λ bad more rest a.
-      let P : List ℕ → Type 0 = λ x. IsSpan is_white x a.2.left (61 ∷ a.2.at_right) in
-      bad more a.2.at_right (a.2.left, subst P (sym (named_settled b n r more a.0 a.2.at_left s e a.2.named).1) a.2.before_sign)) f h
+    let P : List ℕ → Type 0 = λ x. IsSpan is_white x a.2.left (61 ∷ a.2.at_right) in
+    bad more a.2.at_right (a.2.left, subst P (sym (named_settled b n r more a.0 a.2.at_left s e a.2.named).1) a.2.before_sign)) f h
 
 quote_stops : (b raw after : List ℕ) → IsQuoted b raw after → Stops is_white b
 quote_stops [] raw after q = tt
@@ -195,23 +224,32 @@ quote_stops (x ∷ b) raw after q = ap is_white (heads q.mark) ∙ white_quote q
 pub attr_by_quoted : (before : List Attr) (b n r gap r3 gap2 r4 : List ℕ) → IsNamed b n r → (r ≡ [] → ⊥) → (HasName before n → ⊥) → IsSpan is_white r gap (61 ∷ r3) →
     IsSpan is_white r3 gap2 r4 → (f : Flaw) → IsFlawOf AQuoted f r4 → IsFlawOf (AnAttr before) f b
 attr_by_quoted before b n r gap r3 gap2 r4 s e fresh g w f h = flaw_map AQuoted (AnAttr before) r4 b
-    (λ more l q. (more, l, (n, q.0, record {
-      left = gap;
-      right = gap2;
-      at_left = r ++ more;
-      at_right = r3 ++ more;
-      at_quote = r4 ++ more;
-      named = named_more b n r more s e;
-      before_sign = span_more is_white r gap (61 ∷ r3) more g (begun_by 61 [] r3 (61 ∷ r3) refl);
-      behind_sign = span_join is_white r3 gap2 r4 more w (quote_stops (r4 ++ more) q.0 [] q.1);
-      quoted = q.1;
-    }, fresh)))
+    (λ more l q. (
+      more,
+      l,
+      (
+        n,
+        q.0,
+        record {
+          left = gap;
+          right = gap2;
+          at_left = r ++ more;
+          at_right = r3 ++ more;
+          at_quote = r4 ++ more;
+          named = named_more b n r more s e;
+          before_sign = span_more is_white r gap (61 ∷ r3) more g (begun_by 61 [] r3 (61 ∷ r3) refl);
+          behind_sign = span_join is_white r3 gap2 r4 more w (quote_stops (r4 ++ more) q.0 [] q.1);
+          quoted = q.1;
+        },
+        fresh,
+      ),
+    ))
     (λ bad more rest a.
-      let P : List ℕ → Type 0 = λ x. IsSpan is_white x a.2.left (61 ∷ a.2.at_right) in
-      let b1 = subst P (sym (named_settled b n r more a.0 a.2.at_left s e a.2.named).1) a.2.before_sign in
-      let k : r3 ++ more ≡ a.2.at_right = tails (span_settled is_white r gap (61 ∷ r3) more a.2.left (61 ∷ a.2.at_right) g (begun_by 61 [] r3 (61 ∷ r3) refl) b1).1 in
-      let Q : List ℕ → Type 0 = λ x. IsSpan is_white x a.2.right a.2.at_quote in
-      last r4 w bad more rest a.2.right a.2.at_quote a.1 (subst Q (sym k) a.2.behind_sign) a.2.quoted) f h
+    let P : List ℕ → Type 0 = λ x. IsSpan is_white x a.2.left (61 ∷ a.2.at_right) in
+    let b1 = subst P (sym (named_settled b n r more a.0 a.2.at_left s e a.2.named).1) a.2.before_sign in
+    let k : r3 ++ more ≡ a.2.at_right = tails (span_settled is_white r gap (61 ∷ r3) more a.2.left (61 ∷ a.2.at_right) g (begun_by 61 [] r3 (61 ∷ r3) refl) b1).1 in
+    let Q : List ℕ → Type 0 = λ x. IsSpan is_white x a.2.right a.2.at_quote in
+    last r4 w bad more rest a.2.right a.2.at_quote a.1 (subst Q (sym k) a.2.behind_sign) a.2.quoted) f h
   where
     last : (r4 : List ℕ) → IsSpan is_white r3 gap2 r4 → ((more rest : List ℕ) → AQuoted (r4 ++ more) rest → ⊥) → (more rest right at raw : List ℕ) →
         IsSpan is_white (r3 ++ more) right at → IsQuoted at raw rest → ⊥

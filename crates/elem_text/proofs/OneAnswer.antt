@@ -103,11 +103,13 @@ breaks_no_file start b place e x f = by_meets (meets start b x.ps x.at x.rest f.
   where
     ended : f.ps ≡ x.ps → x.rest ≡ [] → ⊥
     ended s r = let P : List Piece → Type 0 = λ l. IsDocument l e in fails_end x.ps x.at x.rest place e x.fails r (subst P s f.document)
+
     on : (k : List Piece) → f.ps ≡ x.ps ++ k → Reads x.at x.rest k f.end [] → ⊥
     on [] s r = ended (s ∙ append-nil x.ps) (sym r.1)
     on (q ∷ k) s r =
         let P : List Piece → Type 0 = λ l. Fits l in
         fails_last x.ps x.at x.rest place q k r.1 x.fails r.3 (subst P s (fits_of f.ps e f.document))
+
     by_meets : Meets start b x.ps x.at x.rest f.ps f.end [] → ⊥
     by_meets (inl m) = on m.0 m.1 m.2
     by_meets (inr m) =
@@ -177,12 +179,14 @@ breaks_or_deep start b place x d = by_meets (meets start b x.ps x.at x.rest d.ps
     on (q ∷ k) s r =
         let R : List Piece → Type 0 = λ l. Fits l in
         fails_last x.ps x.at x.rest place q k r.1 x.fails r.3 (subst R s (fits_front d.ps (d.piece ∷ []) d.fits))
+
     back : (k : List Piece) → x.ps ≡ d.ps ++ k → Reads d.at d.rest k x.at x.rest → ⊥
     back [] s r = on [] (sym (s ∙ append-nil d.ps) ∙ sym (append-nil x.ps)) (sym r.0, sym r.1)
     back (q ∷ k) s r = deeper start b d x.ps (q ∷ k) x.at x.rest s r x.shallow (λ e. nothing_else e)
       where
         nothing_else : q ∷ k ≡ [] → ⊥
         nothing_else e = cc
+
     by_meets : Meets start b x.ps x.at x.rest d.ps d.at d.rest → ⊥
     by_meets (inl m) = on m.0 m.1 m.2
     by_meets (inr m) = back m.0 m.1 m.2
@@ -193,12 +197,14 @@ shallow_not_deep start b ps end r a d = by_meets (meets start b ps end [] d.ps d
   where
     ended : d.rest ≡ [] → ⊥
     ended e = no_lex d.at d.rest d.piece d.behind e d.lex
+
     back : (k : List Piece) → ps ≡ d.ps ++ k → Reads d.at d.rest k end [] → ⊥
     back [] s r = ended (sym r.1)
     back (q ∷ k) s r = deeper start b d ps (q ∷ k) end [] s r a (λ e. nothing_else e)
       where
         nothing_else : q ∷ k ≡ [] → ⊥
         nothing_else e = cc
+
     by_meets : Meets start b ps end [] d.ps d.at d.rest → ⊥
     by_meets (inl m) =
         let n = reads_nothing end [] m.0 d.at d.rest refl m.2 in

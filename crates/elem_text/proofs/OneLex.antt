@@ -25,9 +25,18 @@ attributes_some before b (y ∷ attrs) x a n e = attr_some a.1 y.name a.2 a.3 a.
 
 attributes_more : (before : List Attr) (b : List ℕ) (attrs : List Attr) (x more : List ℕ) → Attributes before b attrs x → (x ≡ [] → ⊥) → Attributes before (b ++ more) attrs (x ++ more)
 attributes_more before b [] x more a n = (a.0, span_more is_white b a.0 x more a.1 n)
-attributes_more before b (y ∷ attrs) x more a n =
-    (a.0, a.1 ++ more, a.2, a.3 ++ more, span_more is_white b a.0 a.1 more a.4 (attr_some a.1 y.name a.2 a.3 a.6), a.5, attr_more a.1 y.name a.2 a.3 more a.6, a.7, a.8,
-     attributes_more (before ++ y ∷ []) a.3 attrs x more a.9 n)
+attributes_more before b (y ∷ attrs) x more a n = (
+  a.0,
+  a.1 ++ more,
+  a.2,
+  a.3 ++ more,
+  span_more is_white b a.0 a.1 more a.4 (attr_some a.1 y.name a.2 a.3 a.6),
+  a.5,
+  attr_more a.1 y.name a.2 a.3 more a.6,
+  a.7,
+  a.8,
+  attributes_more (before ++ y ∷ []) a.3 attrs x more a.9 n,
+)
 
 tail_more : (empty : Bool) (rest more : List ℕ) → tail_of empty rest ++ more ≡ tail_of empty (rest ++ more)
 tail_more false rest more = refl
@@ -215,10 +224,15 @@ lex_at at at' b skip rest l = (skip, l)
 -- what the end cuts off is no piece
 pub is_cut : (at : Place) (b inside : List ℕ) → b ≡ 60 ∷ inside → (more : List ℕ) → 0 < length more → APiece (b ++ more) [] → IsCut at b
 is_cut at b inside s more n a =
-    let l = lex_at a.0 at (b ++ more) a.1 [] a.2 in
-    (more, l.0, n, l.1, λ q rest k.
-      let P : List ℕ → Type 0 = λ x. IsLex at x q rest in
-      let Q : List ℕ → Type 0 = λ x. IsLex at x q (rest ++ more) in
-      let longer : IsLex at (b ++ more) q (rest ++ more) = subst Q (ap (λ x. x ++ more) (sym s)) (lex_more at inside q rest more (subst P s k)) in
-      let e : [] ≡ rest ++ more = (one_lex at (b ++ more) l.0 q [] (rest ++ more) l.1 longer).1 in
-      omega (arith, n, ap length e, length-append rest more))
+    let l = lex_at a.0 at (b ++ more) a.1 [] a.2 in (
+      more,
+      l.0,
+      n,
+      l.1,
+      λ q rest k.
+          let P : List ℕ → Type 0 = λ x. IsLex at x q rest in
+          let Q : List ℕ → Type 0 = λ x. IsLex at x q (rest ++ more) in
+          let longer : IsLex at (b ++ more) q (rest ++ more) = subst Q (ap (λ x. x ++ more) (sym s)) (lex_more at inside q rest more (subst P s k)) in
+          let e : [] ≡ rest ++ more = (one_lex at (b ++ more) l.0 q [] (rest ++ more) l.1 longer).1 in
+          omega (arith, n, ap length e, length-append rest more),
+    )

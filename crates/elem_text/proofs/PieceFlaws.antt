@@ -47,12 +47,15 @@ comment_closing (a ∷ b ∷ c ∷ s) e =
 
 pub comment_open : (b first second : List ℕ) → b ≡ 45 ∷ first → first ≡ 45 ∷ second → None ≡ behind_comment second → IsFlawOf AComment Cut b
 comment_open b first second s t e =
-    let m = 45 ∷ 45 ∷ 62 ∷ [] in
-    (m, omega arith, record {
-      inside = second ++ m;
-      mark = ap (λ l. 60 ∷ 33 ∷ (l ++ m)) (s ∙ ap (λ l. 45 ∷ l) t);
-      ends = comment_closing second (sym e);
-    })
+    let m = 45 ∷ 45 ∷ 62 ∷ [] in (
+      m,
+      omega arith,
+      record {
+        inside = second ++ m;
+        mark = ap (λ l. 60 ∷ 33 ∷ (l ++ m)) (s ∙ ap (λ l. 45 ∷ l) t);
+        ends = comment_closing second (sym e);
+      },
+    )
 
 instruction_closing : (s : List ℕ) → behind_instruction s ≡ None → behind_instruction (s ++ 63 ∷ 62 ∷ []) ≡ Some []
 instruction_closing [] e = refl
@@ -124,22 +127,22 @@ pub flaw_by_end : (b r : List ℕ) → b ≡ 47 ∷ r → (f : Flaw) → IsFlawO
 flaw_by_end b r s f h =
     let P : List ℕ → Type 0 = λ l. IsFlawOf APiece f (60 ∷ l) in
     subst P (sym s) (flaw_map AnEndTag APiece r (60 ∷ 47 ∷ r)
-      (λ more l e. (more, l, (first_place, closes e.0, e.1)))
-      (λ bad more rest p. bad more rest (piece_is_end (r ++ more) rest p)) f h)
+    (λ more l e. (more, l, (first_place, closes e.0, e.1)))
+    (λ bad more rest p. bad more rest (piece_is_end (r ++ more) rest p)) f h)
 
 pub flaw_by_comment : (b r : List ℕ) → b ≡ 33 ∷ r → (f : Flaw) → IsFlawOf AComment f r → IsFlawOf APiece f (60 ∷ b)
 flaw_by_comment b r s f h =
     let P : List ℕ → Type 0 = λ l. IsFlawOf APiece f (60 ∷ l) in
     subst P (sym s) (flaw_map AComment APiece r (60 ∷ 33 ∷ r)
-      (λ more l e. (more, l, (first_place, skip, inl e)))
-      (λ bad more rest p. bad more rest (piece_is_comment (r ++ more) rest p)) f h)
+    (λ more l e. (more, l, (first_place, skip, inl e)))
+    (λ bad more rest p. bad more rest (piece_is_comment (r ++ more) rest p)) f h)
 
 pub flaw_by_instruction : (b r : List ℕ) → b ≡ 63 ∷ r → (f : Flaw) → IsFlawOf AnInstruction f r → IsFlawOf APiece f (60 ∷ b)
 flaw_by_instruction b r s f h =
     let P : List ℕ → Type 0 = λ l. IsFlawOf APiece f (60 ∷ l) in
     subst P (sym s) (flaw_map AnInstruction APiece r (60 ∷ 63 ∷ r)
-      (λ more l e. (more, l, (first_place, skip, inr e)))
-      (λ bad more rest p. bad more rest (piece_is_instruction (r ++ more) rest p)) f h)
+    (λ more l e. (more, l, (first_place, skip, inr e)))
+    (λ bad more rest p. bad more rest (piece_is_instruction (r ++ more) rest p)) f h)
 
 start_piece : (b n : List ℕ) (attrs : List Attr) (empty : Bool) (rest : List ℕ) → IsStartTag b n attrs empty rest → APiece b rest
 start_piece b n attrs false rest t = (first_place, opens n attrs first_place, (refl, t))

@@ -36,9 +36,11 @@ next_by_slash before b gap r s Bad k = λ more rest t.
   where
     spelled : (more : List ℕ) → r ++ more ≡ 47 ∷ (k.0 ++ more)
     spelled more = ap (λ l. l ++ more) k.1
+
     first : (inside more rest : List ℕ) → (inside ≡ [] → ⊥) → inside ++ more ≡ 62 ∷ rest → (t : List ℕ) × (inside ≡ 62 ∷ t)
     first [] more rest n e = absurd (n refl)
     first (x ∷ inside) more rest n e = (inside, ap (λ y. y ∷ inside) (heads e))
+
     split : (more : List ℕ) (attrs : List Attr) (empty : Bool) (rest : List ℕ) → Went before gap (r ++ more) attrs (tail_of empty rest) → ⊥
     split more [] false rest w = omega (arith, heads (sym (spelled more) ∙ w))
     split more [] true rest w = let q = first k.0 more rest k.3 (tails (sym (spelled more) ∙ w)) in k.2 q.0 q.1
@@ -67,11 +69,17 @@ pub next_by_attr : (before : List Attr) (b gap r : List ℕ) → IsSpan is_white
     IsFlawOf (ATagRest before) f b
 next_by_attr before b gap r s g h f k = flaw_map (AnAttr before) (ATagRest before) r b
     (λ more l a.
-      let more' = more ++ 62 ∷ [] in
-      let P : List ℕ → Type 0 = λ x. IsAttr x a.0 a.1 (62 ∷ []) in
-      let t : IsAttr (r ++ more') a.0 a.1 (62 ∷ []) = subst P (append_assoc r more (62 ∷ [])) (attr_more (r ++ more) a.0 a.1 [] (62 ∷ []) a.2) in
-      (more', omega (arith, length-append more (62 ∷ [])), (record { name = a.0; value = decoded a.1 } ∷ [], false,
-        (gap, r ++ more', a.1, 62 ∷ [], span_join is_white b gap r more' s (attr_stops (r ++ more') a.0 a.1 (62 ∷ []) t), g, t, refl, a.3, ([], white_none (62 ∷ []) white_62)))))
+    let more' = more ++ 62 ∷ [] in
+    let P : List ℕ → Type 0 = λ x. IsAttr x a.0 a.1 (62 ∷ []) in
+    let t : IsAttr (r ++ more') a.0 a.1 (62 ∷ []) = subst P (append_assoc r more (62 ∷ [])) (attr_more (r ++ more) a.0 a.1 [] (62 ∷ []) a.2) in (
+      more',
+      omega (arith, length-append more (62 ∷ [])),
+      (
+        record { name = a.0; value = decoded a.1 } ∷ [],
+        false,
+        (gap, r ++ more', a.1, 62 ∷ [], span_join is_white b gap r more' s (attr_stops (r ++ more') a.0 a.1 (62 ∷ []) t), g, t, refl, a.3, ([], white_none (62 ∷ []) white_62)),
+      ),
+    ))
     (λ bad more rest t. by_rest r s h bad more t.0 t.1 rest t.2) f k
   where
     by_rest : (r : List ℕ) → IsSpan is_white b gap r → NoTail r → ((more rest : List ℕ) → AnAttr before (r ++ more) rest → ⊥) → (more : List ℕ) (attrs : List Attr) (empty : Bool) (rest : List ℕ) →
@@ -88,8 +96,8 @@ pub tag_by_next : (all : List ℕ) (done before : List Attr) (left : List ℕ) �
 tag_by_next all done before left r e f h =
     let P : List Attr → Type 0 = λ l. IsFlawOf (ATagRest l) f left in
     flaw_map (ATagRest done) (ATagRest []) left all
-      (λ more l t. (more, l, (done ++ t.0, t.1, r.on more t.0 (tail_of t.1 []) t.2)))
-      (λ bad more rest t. let b = r.back more t.0 t.1 rest t.2 in bad more rest (b.0, t.1, b.2)) f (subst P e h)
+    (λ more l t. (more, l, (done ++ t.0, t.1, r.on more t.0 (tail_of t.1 []) t.2)))
+    (λ bad more rest t. let b = r.back more t.0 t.1 rest t.2 in bad more rest (b.0, t.1, b.2)) f (subst P e h)
 
 tag_end_now : ATagRest [] (62 ∷ []) []
 tag_end_now = ([], false, ([], white_none (62 ∷ []) white_62))
@@ -97,17 +105,25 @@ tag_end_now = ([], false, ([], white_none (62 ∷ []) white_62))
 pub start_by_name : (b : List ℕ) (f : Flaw) → IsFlawOf ANamed f b → IsFlawOf AStartTag f b
 start_by_name b f h = flaw_map ANamed AStartTag b b
     (λ more l n.
-      let P : List ℕ → Type 0 = λ x. IsNamed x n.0 (62 ∷ []) in
-      (more ++ 62 ∷ [], omega (arith, length-append more (62 ∷ [])), (n.0, [], false, record {
-        inside = b ++ (more ++ 62 ∷ []);
-        behind = 62 ∷ [];
-        angle = refl;
-        named = subst P (append_assoc b more (62 ∷ [])) (named_join (b ++ more) n.0 [] (62 ∷ []) n.1 name_62);
-        attributes = ([], white_none (62 ∷ []) white_62);
-      })))
+    let P : List ℕ → Type 0 = λ x. IsNamed x n.0 (62 ∷ []) in (
+      more ++ 62 ∷ [],
+      omega (arith, length-append more (62 ∷ [])),
+      (
+        n.0,
+        [],
+        false,
+        record {
+          inside = b ++ (more ++ 62 ∷ []);
+          behind = 62 ∷ [];
+          angle = refl;
+          named = subst P (append_assoc b more (62 ∷ [])) (named_join (b ++ more) n.0 [] (62 ∷ []) n.1 name_62);
+          attributes = ([], white_none (62 ∷ []) white_62);
+        },
+      ),
+    ))
     (λ bad more rest s.
-      let P : List ℕ → Type 0 = λ x. IsNamed x s.0 s.3.behind in
-      bad more s.3.behind (s.0, subst P (sym (tails s.3.angle)) s.3.named)) f h
+    let P : List ℕ → Type 0 = λ x. IsNamed x s.0 s.3.behind in
+    bad more s.3.behind (s.0, subst P (sym (tails s.3.angle)) s.3.named)) f h
 
 gap_stops : (x gap r : List ℕ) → IsSpan is_white x gap r → (gap ≡ [] → Stops is_name_byte r) → Stops is_name_byte x
 gap_stops x [] r s h = let P : List ℕ → Type 0 = λ l. Stops is_name_byte l in subst P (sym s.spelled) (h refl)
@@ -120,16 +136,25 @@ attributes_stop x (y ∷ attrs) empty rest a = gap_stops x a.0 a.1 a.4 (λ e. ab
 
 pub start_by_rest : (b n r : List ℕ) → IsNamed b n r → (f : Flaw) → IsFlawOf (ATagRest []) f r → IsFlawOf AStartTag f b
 start_by_rest b n r s f h = flaw_map (ATagRest []) AStartTag r b
-    (λ more l t. (more, l, (n, t.0, t.1, record {
-      inside = b ++ more;
-      behind = r ++ more;
-      angle = refl;
-      named = named_join b n r more s (attributes_stop (r ++ more) t.0 t.1 [] t.2);
-      attributes = t.2;
-    })))
+    (λ more l t. (
+      more,
+      l,
+      (
+        n,
+        t.0,
+        t.1,
+        record {
+          inside = b ++ more;
+          behind = r ++ more;
+          angle = refl;
+          named = named_join b n r more s (attributes_stop (r ++ more) t.0 t.1 [] t.2);
+          attributes = t.2;
+        },
+      ),
+    ))
     (λ bad more rest t.
-      let P : List ℕ → Type 0 = λ x. IsNamed x t.0 t.3.behind in
-      by_rest r s bad more rest t.0 t.1 t.2 t.3.behind (subst P (sym (tails t.3.angle)) t.3.named) t.3.attributes) f h
+    let P : List ℕ → Type 0 = λ x. IsNamed x t.0 t.3.behind in
+    by_rest r s bad more rest t.0 t.1 t.2 t.3.behind (subst P (sym (tails t.3.angle)) t.3.named) t.3.attributes) f h
   where
     by_rest : (r : List ℕ) → IsNamed b n r → ((more rest : List ℕ) → ATagRest [] (r ++ more) rest → ⊥) → (more rest n' : List ℕ) (attrs : List Attr) (empty : Bool) (behind : List ℕ) →
         IsNamed (b ++ more) n' behind → Attributes [] behind attrs (tail_of empty rest) → ⊥
@@ -141,32 +166,45 @@ start_by_rest b n r s f h = flaw_map (ATagRest []) AStartTag r b
 pub end_by_name : (b : List ℕ) (f : Flaw) → IsFlawOf ANamed f b → IsFlawOf AnEndTag f b
 end_by_name b f h = flaw_map ANamed AnEndTag b b
     (λ more l n.
-      let P : List ℕ → Type 0 = λ x. IsNamed x n.0 (62 ∷ []) in
-      (more ++ 62 ∷ [], omega (arith, length-append more (62 ∷ [])), (n.0, record {
-        inside = b ++ (more ++ 62 ∷ []);
-        behind = 62 ∷ [];
-        gap = [];
-        angle = refl;
-        named = subst P (append_assoc b more (62 ∷ [])) (named_join (b ++ more) n.0 [] (62 ∷ []) n.1 name_62);
-        white = white_none (62 ∷ []) white_62;
-      })))
+    let P : List ℕ → Type 0 = λ x. IsNamed x n.0 (62 ∷ []) in (
+      more ++ 62 ∷ [],
+      omega (arith, length-append more (62 ∷ [])),
+      (
+        n.0,
+        record {
+          inside = b ++ (more ++ 62 ∷ []);
+          behind = 62 ∷ [];
+          gap = [];
+          angle = refl;
+          named = subst P (append_assoc b more (62 ∷ [])) (named_join (b ++ more) n.0 [] (62 ∷ []) n.1 name_62);
+          white = white_none (62 ∷ []) white_62;
+        },
+      ),
+    ))
     (λ bad more rest s.
-      let P : List ℕ → Type 0 = λ x. IsNamed x s.0 s.1.behind in
-      bad more s.1.behind (s.0, subst P (sym (tails (tails s.1.angle))) s.1.named)) f h
+    let P : List ℕ → Type 0 = λ x. IsNamed x s.0 s.1.behind in
+    bad more s.1.behind (s.0, subst P (sym (tails (tails s.1.angle))) s.1.named)) f h
 
 pub end_by_sign : (b n r : List ℕ) → IsNamed b n r → (f : Flaw) → IsFlawOf (ASign 62) f r → IsFlawOf AnEndTag f b
 end_by_sign b n r s f h = flaw_map (ASign 62) AnEndTag r b
-    (λ more l g. (more, l, (n, record {
-      inside = b ++ more;
-      behind = r ++ more;
-      gap = g.0;
-      angle = refl;
-      named = named_join b n r more s (gap_stops (r ++ more) g.0 (62 ∷ []) g.1 (λ _. name_62));
-      white = g.1;
-    })))
+    (λ more l g. (
+      more,
+      l,
+      (
+        n,
+        record {
+          inside = b ++ more;
+          behind = r ++ more;
+          gap = g.0;
+          angle = refl;
+          named = named_join b n r more s (gap_stops (r ++ more) g.0 (62 ∷ []) g.1 (λ _. name_62));
+          white = g.1;
+        },
+      ),
+    ))
     (λ bad more rest t.
-      let P : List ℕ → Type 0 = λ x. IsNamed x t.0 t.1.behind in
-      by_rest r s bad more rest t.0 t.1.gap t.1.behind (subst P (sym (tails (tails t.1.angle))) t.1.named) t.1.white) f h
+    let P : List ℕ → Type 0 = λ x. IsNamed x t.0 t.1.behind in
+    by_rest r s bad more rest t.0 t.1.gap t.1.behind (subst P (sym (tails (tails t.1.angle))) t.1.named) t.1.white) f h
   where
     by_rest : (r : List ℕ) → IsNamed b n r → ((more rest : List ℕ) → ASign 62 (r ++ more) rest → ⊥) → (more rest n' gap behind : List ℕ) →
         IsNamed (b ++ more) n' behind → IsSpan is_white behind gap (62 ∷ rest) → ⊥

@@ -8,5 +8,4 @@ pub fn laws_of_the_grammar()
     ensures one_place { BreaksAtOnePlace }
     ensures spelled { BreaksOrIsSpelled }
     ensures deep { BreaksOrIsTooDeep }
-{
-}
+{}

@@ -32,4 +32,4 @@ returns-in_err-rest-2-clause-flaw c =
 pub returns-clause-flaw : goal.returns-clause-flaw
 returns-clause-flaw c =
     IfErr-weaker c.start_tag.result (λ f. IsFlawOf AStartTag f c.args.inside.now) (λ f. IsFlawOf APiece f (60 ∷ c.args.inside.now))
-      (λ f h. flaw_by_start _ c.in_default.ensures c.in_default-byte.ensures c.in_default-byte-2.ensures f h) c.start_tag.ensures.flaw
+    (λ f h. flaw_by_start _ c.in_default.ensures c.in_default-byte.ensures c.in_default-byte-2.ensures f h) c.start_tag.ensures.flaw

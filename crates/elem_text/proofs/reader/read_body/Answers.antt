@@ -32,7 +32,7 @@ returns-in-Err-clause-refused c =
 pub returns-in-Err-take-clause-refused : goal.returns-in-Err-take-clause-refused
 returns-in-Err-take-clause-refused c =
     along_refused _ _ _ _ _ _ _ _ _ c.loop-rest.invariant.along (c.in-Ok.ensures.whole c.loop-rest.place)
-      (λ e. c.in-Err-take.ensures.broken (ap Err e)) (λ e. c.in-Err-take.ensures.deep (ap Err e)) c.refused.ensures
+    (λ e. c.in-Err-take.ensures.broken (ap Err e)) (λ e. c.in-Err-take.ensures.deep (ap Err e)) c.refused.ensures
 
 pub returns-in-None-clause-refused : goal.returns-in-None-clause-refused
 returns-in-None-clause-refused c =

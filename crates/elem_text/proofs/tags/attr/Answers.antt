@@ -24,10 +24,10 @@ pub returns-in_err-rest-clause-flaw : goal.returns-in_err-rest-clause-flaw
 returns-in_err-rest-clause-flaw c =
     let p = err_from_is_err_and c.from_residual-in_err-rest.result c.from_residual-in_err-rest.ensures.1 in
     rw (p.1, p.2) (attr_by_sign _ _ _ _ c.in_ok-name.ensures.whole (some_bytes _ _ c.is_empty.ensures c.if-is_empty.false)
-      (λ h. false≢true (sym c.if-stands.false ∙ c.stands.ensures.1 h)) _ c.in_err-rest.ensures.flaw)
+    (λ h. false≢true (sym c.if-stands.false ∙ c.stands.ensures.1 h)) _ c.in_err-rest.ensures.flaw)
 
 pub returns-in_err-raw-clause-flaw : goal.returns-in_err-raw-clause-flaw
 returns-in_err-raw-clause-flaw c =
     let p = err_from_is_err_and c.from_residual-in_err-raw.result c.from_residual-in_err-raw.ensures.1 in
     rw (p.1, p.2) (attr_by_quoted _ _ _ _ _ _ _ _ c.in_ok-name.ensures.whole (some_bytes _ _ c.is_empty.ensures c.if-is_empty.false)
-      (λ h. false≢true (sym c.if-stands.false ∙ c.stands.ensures.1 h)) c.in_ok-rest.ensures.whole.1 c.white.ensures _ c.in_err-raw.ensures.flaw)
+    (λ h. false≢true (sym c.if-stands.false ∙ c.stands.ensures.1 h)) c.in_ok-rest.ensures.whole.1 c.white.ensures _ c.in_err-raw.ensures.flaw)
