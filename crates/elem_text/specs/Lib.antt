@@ -8,3 +8,4 @@ pub mod Stack
 pub mod Flaws
 pub mod Refusals
 pub mod Laws
+pub mod Written

@@ -13,6 +13,7 @@ mod reader;
 mod references;
 mod stack;
 mod tags;
+mod writer;
 #[cfg(test)]
 mod tests;
 
@@ -20,3 +21,4 @@ pub use elem::{Attr, Elem};
 pub use error::ElemError;
 pub use laws::laws_of_the_grammar;
 pub use reader::read_elems;
+pub use writer::write_elem;
