@@ -1,2 +1,4 @@
 pub mod Decimal
+pub mod Lists
 pub mod Outside
+pub mod Spans
