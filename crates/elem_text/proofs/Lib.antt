@@ -15,3 +15,4 @@ pub mod Complete
 pub mod OneLex
 pub mod OneAnswer
 pub mod Depth
+pub mod Rows

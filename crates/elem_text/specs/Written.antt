@@ -19,6 +19,7 @@ abbrev mutual
   pub text_of : Elem → List ℕ
   text_of (Elem' name attrs text n kids place) =
       60 ∷ (name ++ (flat_map attr_text attrs ++ 62 ∷ (escaped text ++ (texts_of kids ++ 60 ∷ 47 ∷ (name ++ 62 ∷ [])))))
+
   pub texts_of : {m : _} → Row_of-Elem m → List ℕ
   texts_of end_of-Elem = []
   texts_of (more_of-Elem e rest) = text_of e ++ texts_of rest

@@ -13,9 +13,9 @@ mod reader;
 mod references;
 mod stack;
 mod tags;
-mod writer;
 #[cfg(test)]
 mod tests;
+mod writer;
 
 pub use elem::{Attr, Elem};
 pub use error::ElemError;

@@ -1,9 +1,8 @@
 ghost use Rattle.std.specs.Prelude.{◌≡◌, ◌++◌, OnOk, flat_map};
 ghost use Rattle.elem_text.specs.Written.{escape, escaped, attr_text, text_of, start_text, end_text};
 
-use std::alloc::AllocError;
-
 use crate::elem::{Attr, Elem};
+use std::alloc::AllocError;
 
 /// Appends an element as text, with nothing between its children. The text reads back to the same
 /// element but for its places, where its names are names, the attributes of each element have
