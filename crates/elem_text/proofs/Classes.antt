@@ -63,3 +63,7 @@ letter_33 = refl
 pub letter_63 : is_letter 63 ≡ false
 unfolding is_letter
 letter_63 = refl
+
+pub white_32 : is_white 32 ≡ true
+unfolding is_white
+white_32 = refl

@@ -126,7 +126,7 @@ all_97 : (k : ℕ) → AreAll is_name_byte (replicate k 97)
 all_97 zero = tt
 all_97 (suc k) = (name_97, all_97 k)
 
-all_append : (p : ℕ → Bool) (xs ys : List ℕ) → AreAll p xs → AreAll p ys → AreAll p (xs ++ ys)
+pub all_append : (p : ℕ → Bool) (xs ys : List ℕ) → AreAll p xs → AreAll p ys → AreAll p (xs ++ ys)
 all_append p [] ys a b = b
 all_append p (x ∷ xs) ys a b = (a.0, all_append p xs ys a.1 b)
 

@@ -16,3 +16,5 @@ pub mod OneLex
 pub mod OneAnswer
 pub mod Depth
 pub mod Rows
+pub mod Escaped
+pub mod Written

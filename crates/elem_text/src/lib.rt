@@ -19,6 +19,6 @@ mod writer;
 
 pub use elem::{Attr, Elem};
 pub use error::ElemError;
-pub use laws::laws_of_the_grammar;
+pub use laws::{law_of_the_writer, laws_of_the_grammar};
 pub use reader::read_elems;
 pub use writer::write_elem;
