@@ -1,5 +1,6 @@
 use crate::error::ElemError;
 use crate::reader::read_elems;
+use crate::writer::write_elem;
 use std::alloc::{AllocError, Global};
 
 /// A small architecture with one block.
@@ -139,5 +140,14 @@ fn values_and_text(rt: HostRuntime) -> Result<(), ElemError> {
         assert!(&rt; kid.name.as_str() == "b");
         assert!(&rt; kid.place.byte == 53);
     }
+    Ok(())
+}
+
+#[test]
+fn writes_with_references(rt: HostRuntime) -> Result<(), ElemError> {
+    let root = read_elems(rt.alloc(), b"<a b='1\"&amp;' >x &lt;<c/>\n</a>")?;
+    let mut text = Vec::new(rt.alloc());
+    write_elem(&mut text, &root)?;
+    assert!(&rt; text.as_slice() == b"<a b=\"1&quot;&amp;\">x &lt;\n<c></c></a>");
     Ok(())
 }
