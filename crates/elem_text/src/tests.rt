@@ -148,6 +148,6 @@ fn writes_with_references(rt: HostRuntime) -> Result<(), ElemError> {
     let root = read_elems(rt.alloc(), b"<a b='1\"&amp;' >x &lt;<c/>\n</a>")?;
     let mut text = Vec::new(rt.alloc());
     write_elem(&mut text, &root)?;
-    assert!(&rt; text.as_slice() == b"<a b=\"1&quot;&amp;\">x &lt;\n<c></c></a>");
+    assert!(&rt; text.as_slice() == b"<a b=\"1&quot;&amp;\">x &lt;\n<c></c></a>".as_slice());
     Ok(())
 }
