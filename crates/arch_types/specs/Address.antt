@@ -19,8 +19,8 @@ Address = List Hop
 abbrev pub child_at : PbType → Hop → Option PbType
 child_at block hop =
     option_and_then (λ mode.
-      option_and_then (λ kid. if nat_lt hop.instance kid.count then Some kid else None)
-      (slice_get (kids_of mode) hop.child)) (slice_get (modes_of block.kind) hop.mode)
+    option_and_then (λ kid. if nat_lt hop.instance kid.count then Some kid else None)
+    (slice_get (kids_of mode) hop.child)) (slice_get (modes_of block.kind) hop.mode)
 
 -- the pb_type of the instance at an address, where there is one
 abbrev pub at : PbType → Address → Option PbType
@@ -41,11 +41,14 @@ abbrev mutual
   pub below : Kind → Address → List Address
   below (Modes' n modes) here = in_modes modes 0 here
   below _ here = []
+
   pub in_modes : {m : _} → Row_of-Mode m → ℕ → Address → List Address
   in_modes end_of-Mode mode here = []
   in_modes (more_of-Mode m rest) mode here = in_mode m mode here ++ in_modes rest (mode + 1) here
+
   pub in_mode : Mode → ℕ → Address → List Address
   in_mode (Mode' name n kids inters metas) mode here = in_kids kids mode 0 here
+
   pub in_kids : {m : _} → Row_of-PbType m → ℕ → ℕ → Address → List Address
   in_kids end_of-PbType mode child here = []
   in_kids (more_of-PbType name count ports kind metas rest) mode child here =

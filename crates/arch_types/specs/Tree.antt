@@ -2,7 +2,7 @@
 use Rattle.std.specs.Prelude.{ℕ, List, []}
 use Rattle.arch_types.specs.declared.block.PbType.{PbType}
 use Rattle.arch_types.specs.declared.block.Kind.{Kind, out-Kind}
-use Rattle.arch_types.specs.declared.block.Kind.TheOpen.{Kind-F, Modes}
+use Rattle.arch_types.specs.declared.block.Kind.TheOpen.{Modes}
 use Rattle.arch_types.specs.declared.block.Mode.{Mode, out-Mode}
 use Rattle.arch_types.specs.declared.block.Inter.{Inter}
 

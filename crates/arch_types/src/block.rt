@@ -1,3 +1,6 @@
+ghost use Rattle.arch_types.specs.Address.{instances_of};
+ghost use Rattle.arch_types.specs.Numbering.{IsNumbering};
+
 use sqlite_items::Items;
 use vtr_base::Text;
 
@@ -12,6 +15,15 @@ pub struct PbType {
     pub ports: Items<Port>,
     pub kind: Kind,
     pub metas: Items<Meta>,
+}
+
+impl PbType {
+    /// A law of block types, for callers' proofs: their instances in preorder, by mode, then by
+    /// child, then by instance, are all that there are, and each has one place. It does nothing.
+    #[tactic(auto, using(crate::proofs::Numbered::is_numbering))]
+    pub fn numbering(&self)
+        ensures { IsNumbering self.now (instances_of self.now) }
+    {}
 }
 
 /// What a pb_type is: a leaf by its `blif_model`, or a block with modes. A block that names no

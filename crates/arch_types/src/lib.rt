@@ -7,3 +7,6 @@ mod block;
 
 pub use arch::{Arch, CellModel, Layout, Single, Tile};
 pub use block::{AtomKind, Inter, InterKind, Kind, Meta, Mode, Pattern, PbType, Port, Side};
+
+#[cfg(test)]
+mod tests;

@@ -51,7 +51,7 @@ pub record HasEdges (g : Graph) : Type 0 where
   pub each : (e : Edge) → Has g.edges e → IsEdgeOf g e
   pub all : (e : Edge) → IsEdgeOf g e → Has g.edges e
   pub once : (i j : ℕ) (e f : Edge) → slice_get g.edges i ≡ Some e → slice_get g.edges j ≡ Some f →
-    e.owner ≡ f.owner → e.mode ≡ f.mode → e.src ≡ f.src → e.dst ≡ f.dst → i ≡ j
+      e.owner ≡ f.owner → e.mode ≡ f.mode → e.src ≡ f.src → e.dst ≡ f.dst → i ≡ j
   pub ordered : (i j : ℕ) (e f : Edge) → i < j → slice_get g.edges i ≡ Some e → slice_get g.edges j ≡ Some f → IsNotAfter e f
 
 -- there is such a pin: the instance has that port, and the port that bit

@@ -1,2 +1,5 @@
 pub mod Graph
 pub mod Expansion
+pub mod Rows
+pub mod Ends
+pub mod Tied

@@ -1,4 +1,256 @@
-/// (to be written)
+ghost use Rattle.std.specs.Prelude.{◌≡◌, ◌<◌, ◌^◌, ◌↔◌, ℕ, Some, IsNone, IsSome, IfSome, MatchOption, length, slice_get};
+ghost use Rattle.std.specs.Option.{option_map};
+ghost use Rattle.arch_types.specs.Tree.{modes_of, name_of_mode};
+ghost use Rattle.arch_types.specs.Address.{child_at};
+ghost use Rattle.pb_expand.specs.Graph.{LeadsTo, block_at, mode_at, kind_of, into_from, pin_at, step_from, hop_of};
+ghost use Rattle.pb_expand.specs.Ends.{listed};
+ghost use Rattle.pb_expand.specs.Expansion.{IsExpansion, IsPin};
+
+use crate::number::End;
+use crate::{Edge, EdgeIx, PbIx, PbKind, PinAt, PinIx, Step};
+use arch_types::{AtomKind, Kind, Mode, PbType, Port};
+use indexmap::IndexSet;
+use sqlite_items::Items;
+use std::collections::HashMap;
+use std::marker::Model;
+
+/// A block type with its instances, pins and edges by number. Instances are numbered in preorder,
+/// from the root's 0 on; pins by instance, then port, then bit; edges by owner, then mode, then
+/// interconnect.
+#[derive(Drop)]
 pub struct PbGraph {
     block: u32,
+    root: PbType,
+    /// Row k is how instance k + 1 hangs on its parent.
+    rows: IndexSet<Step>,
+    pins: IndexSet<PinAt>,
+    edges: Vec<Edge>,
+    into: HashMap<End, Items<EdgeIx>>,
+}
+
+impl Model for PbGraph {
+    ghost use Rattle.pb_expand.specs.Graph.{Graph};
+    ghost use Rattle.arch_types.specs.contracts.block.PbType as tree;
+    ghost use Rattle.std.specs.Coded.{codes};
+
+    ghost Value = { Graph };
+
+    ghost coded = { Prim.hlevel (codes, tree.the_row.coded) };
+
+    ghost use Rattle.pb_expand.specs.Tied.{graph_of, IsTied};
+
+    ghost view = { graph_of };
+
+    ghost invariant = { IsTied };
+}
+
+impl PbGraph {
+    /// What is known of every graph.
+    pub fn law(&self)
+        ensures { IsExpansion self.now }
+    {
+        let _ = &self.block;
+    }
+
+    /// The number of the block type in its architecture.
+    pub fn block(&self) -> u32
+        ensures { result ≡ self.now.block }
+    {
+        self.block
+    }
+
+    /// The block type's tree.
+    pub fn root(&self) -> &PbType
+        ensures { result.now ≡ self.now.root }
+    {
+        &self.root
+    }
+
+    /// How many instances there are.
+    pub fn pbs(&self) -> u32
+        ensures { result ≡ length self.now.instances }
+    {
+        self.rows.len() as u32 + 1
+    }
+
+    /// How many pins there are.
+    pub fn pins(&self) -> u32
+        ensures { result ≡ length self.now.pins }
+    {
+        self.pins.len() as u32
+    }
+
+    /// How many edges there are.
+    pub fn edges(&self) -> u32
+        ensures { result ≡ length self.now.edges }
+    {
+        self.edges.len() as u32
+    }
+
+    /// How an instance hangs on its parent; nothing for the root.
+    pub fn address_of(&self, pb: PbIx) -> Option<Step>
+        requires { pb.0 < length self.now.instances }
+        ensures root { IsNone result ↔ (pb.0 ≡ 0) }
+        ensures step { IfSome result (λ s. LeadsTo self.now.instances s pb.0) }
+    {
+        if pb.0 == 0 {
+            return None;
+        }
+        self.rows.get_index(pb.0 as usize - 1).copied()
+    }
+
+    /// The instance below one by a mode, a child of it and an instance of the child.
+    pub fn child_of(&self, pb: PbIx, mode: u32, child: u32, instance: u32) -> Option<PbIx>
+        requires { pb.0 < length self.now.instances }
+        ensures { MatchOption result ((n : ℕ) → LeadsTo self.now.instances (step_from pb.0 mode child instance) n → ⊥) (λ n. LeadsTo self.now.instances (step_from pb.0 mode child instance) n.0) }
+    {
+        let step = Step {
+            parent: pb,
+            mode,
+            child,
+            instance,
+        };
+        let row = place_of_step(&self.rows, step)?;
+        Some(PbIx(row as u32 + 1))
+    }
+
+    /// The pin of a bit of a port of an instance.
+    pub fn pin_of(&self, pb: PbIx, port: u32, bit: u32) -> Option<PinIx>
+        requires { pb.0 < length self.now.instances }
+        ensures { MatchOption result (IsPin self.now pb.0 port bit → ⊥) (λ n. slice_get self.now.pins n.0 ≡ Some (pin_at pb.0 port bit)) }
+    {
+        let place = place_of_pin(&self.pins, PinAt { pb, port, bit })?;
+        Some(PinIx(place as u32))
+    }
+
+    /// What a pin is.
+    pub fn pin_at(&self, pin: PinIx) -> PinAt
+        requires { pin.0 < length self.now.pins }
+        ensures is { slice_get self.now.pins pin.0 ≡ Some result }
+        ensures inside { result.pb.0 < length self.now.instances }
+    {
+        self.pins.as_slice()[pin.0 as usize]
+    }
+
+    /// What an edge is.
+    pub fn edge(&self, edge: EdgeIx) -> Edge
+        requires { edge.0 < length self.now.edges }
+        ensures is { slice_get self.now.edges edge.0 ≡ Some result }
+        ensures src { result.src.0 < length self.now.pins }
+        ensures dst { result.dst.0 < length self.now.pins }
+        ensures owner { result.owner.0 < length self.now.instances }
+    {
+        self.edges[edge.0 as usize]
+    }
+
+    /// The instance and the mode that have an edge.
+    pub fn mode_of_edge(&self, edge: EdgeIx) -> (PbIx, u32)
+        requires { edge.0 < length self.now.edges }
+        ensures is { IfSome (slice_get self.now.edges edge.0) (λ e. (result.0 ≡ e.owner) × (result.1 ≡ e.mode)) }
+        ensures inside { result.0.0 < length self.now.instances }
+    {
+        let Edge { owner, mode, .. } = self.edge(edge);
+        (owner, mode)
+    }
+
+    /// The edges into a pin in one mode of their owner, in the order of all edges.
+    pub fn edges_into(&self, pin: PinIx, mode: u32) -> &[EdgeIx]
+        requires { pin.0 < length self.now.pins }
+        ensures { result.now ≡ into_from 0 self.now.edges pin.0 mode }
+    {
+        edges_at(&self.into, End { pin, mode })
+    }
+
+    /// The pb_type of an instance.
+    pub fn block_of(&self, pb: PbIx) -> &PbType
+        requires { pb.0 < length self.now.instances }
+        ensures is { block_at self.now pb.0 ≡ Some result.now }
+        ensures short { length (modes_of result.now.kind) < 2 ^ 32 }
+    {
+        match self.address_of(pb) {
+            None => &self.root,
+            Some(step) => child_below(self.block_of(step.parent), step),
+        }
+    }
+
+    /// What an instance is.
+    pub fn kind(&self, pb: PbIx) -> PbKind
+        requires { pb.0 < length self.now.instances }
+        ensures { option_map (λ block. kind_of block.kind) (block_at self.now pb.0) ≡ Some result }
+    {
+        match &self.block_of(pb).kind {
+            Kind::InPad => PbKind::Leaf(AtomKind::InPad),
+            Kind::OutPad => PbKind::Leaf(AtomKind::OutPad),
+            Kind::Lut => PbKind::Leaf(AtomKind::Lut),
+            Kind::Latch => PbKind::Leaf(AtomKind::Latch),
+            Kind::Cell(model) => PbKind::Leaf(AtomKind::Cell(*model)),
+            Kind::Modes(modes) => PbKind::Modes(modes.len() as u32),
+        }
+    }
+
+    /// The ports of an instance.
+    pub fn ports(&self, pb: PbIx) -> &[Port]
+        requires { pb.0 < length self.now.instances }
+        ensures { option_map (λ block. block.ports) (block_at self.now pb.0) ≡ Some result.now }
+    {
+        self.block_of(pb).ports.as_slice()
+    }
+
+    /// The name of the pb_type of an instance.
+    pub fn pb_name(&self, pb: PbIx) -> &str
+        requires { pb.0 < length self.now.instances }
+        ensures { option_map (λ block. block.name) (block_at self.now pb.0) ≡ Some result.now }
+    {
+        self.block_of(pb).name.as_str()
+    }
+
+    /// The name of a mode of an instance.
+    pub fn mode_name(&self, pb: PbIx, mode: u32) -> &str
+        requires there { pb.0 < length self.now.instances }
+        requires mode { IsSome (mode_at self.now pb.0 mode) }
+        ensures { option_map name_of_mode (mode_at self.now pb.0 mode) ≡ Some result.now }
+    {
+        match &self.block_of(pb).kind {
+            Kind::InPad | Kind::OutPad | Kind::Lut | Kind::Latch | Kind::Cell(_) => "",
+            Kind::Modes(modes) => modes.as_slice()[mode as usize].name.as_str(),
+        }
+    }
+}
+
+/// The row that is this step.
+fn place_of_step(rows: &IndexSet<Step>, step: Step) -> Option<usize>
+    ensures { MatchOption result ((k : ℕ) → slice_get rows.now.keys k ≡ Some step → ⊥) (λ k. slice_get rows.now.keys k ≡ Some step) }
+{
+    rows.get_index_of(&step)
+}
+
+/// The place of this pin.
+fn place_of_pin(pins: &IndexSet<PinAt>, pin: PinAt) -> Option<usize>
+    ensures { MatchOption result ((k : ℕ) → slice_get pins.now.keys k ≡ Some pin → ⊥) (λ k. slice_get pins.now.keys k ≡ Some pin) }
+{
+    pins.get_index_of(&pin)
+}
+
+/// What the table holds for an end; nothing where it has no entry.
+fn edges_at(into: &HashMap<End, Items<EdgeIx>>, end: End) -> &[EdgeIx]
+    ensures { result.now ≡ listed into.now end.pin.0 end.mode }
+{
+    match into.get(&end) {
+        Some(edges) => edges.as_slice(),
+        None => &[],
+    }
+}
+
+/// The child of a block to which a step leads.
+fn child_below(block: &PbType, step: Step) -> &PbType
+    requires { IsSome (child_at block.now (hop_of step)) }
+    ensures { child_at block.now (hop_of step) ≡ Some result.now }
+{
+    match &block.kind {
+        Kind::InPad | Kind::OutPad | Kind::Lut | Kind::Latch | Kind::Cell(_) => block,
+        Kind::Modes(modes) => {
+            let mode: &Mode = &modes.as_slice()[step.mode as usize];
+            &mode.kids.as_slice()[step.child as usize]
+        }
+    }
 }

@@ -33,6 +33,6 @@ pub too_large : (text : List ℕ) (at value digit : ℕ) → at < length text �
 too_large text at value digit inside r is_digit large n is =
     let cut : drop at text ≡ get_or text at 0 ∷ drop (suc at) text = drop-cons text at 0 inside in
     let whole : digits_value_after 10 value (get_or text at 0 ∷ drop (suc at) text) ≡ digits_value 10 text =
-      subst (λ rest. digits_value_after 10 value rest ≡ digits_value 10 text) cut r.is in
+    subst (λ rest. digits_value_after 10 value rest ≡ digits_value 10 text) cut r.is in
     let grown = value_grows (value * 10 + digit_value (get_or text at 0)) (drop (suc at) text) in
     large (omega (arith, whole, grown, is_digit, is.value, is.fits))

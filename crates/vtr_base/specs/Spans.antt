@@ -29,3 +29,8 @@ abbrev pub AreWords : List ℕ → List (List ℕ) → Type 0
 AreWords text [] = AllPass is_white text
 AreWords text (word ∷ words) =
     (gap behind rest : List ℕ) × IsSpan is_white text gap behind × IsSpan is_dark behind word rest × (0 < length word) × AreWords rest words
+
+-- the text is cut at the first place at which the byte stands
+pub record IsCut (text : List ℕ) (b : ℕ) (front rest : List ℕ) : Type 0 where
+  pub spelled : text ≡ front ++ b ∷ rest
+  pub lacks : Lacks front b

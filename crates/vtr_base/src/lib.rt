@@ -4,10 +4,12 @@
 
 mod decimal;
 mod outside;
+mod parts;
 mod place;
 mod text;
 
 pub use decimal::{put_number, read_number};
 pub use outside::{Shelf, ShelfError, Sink, SinkFailed};
+pub use parts::cut;
 pub use place::Place;
 pub use text::Text;

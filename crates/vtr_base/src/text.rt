@@ -1,4 +1,4 @@
-ghost use Rattle.std.specs.Prelude.{◌≡◌, ◌↔◌, IsTrue, IfOk};
+ghost use Rattle.std.specs.Prelude.{◌≡◌, ◌++◌, [], ◌↔◌, IsTrue, IfOk, OnOk, encode_utf8};
 
 use std::alloc::{AllocError, Global};
 use std::marker::Model;
@@ -19,12 +19,35 @@ impl Model for Text {
 }
 
 impl Text {
+    /// A text of no bytes, which takes no memory.
+    pub fn new(alloc: Global) -> Text
+        ensures { result ≡ [] }
+    {
+        Text {
+            inner: String::new(alloc),
+        }
+    }
+
     pub fn from_str(alloc: Global, s: &str) -> Result<Text, AllocError>
         ensures { IfOk result (λ t. t ≡ s.now) }
     {
         Ok(Text {
             inner: String::from_str(alloc, s)?,
         })
+    }
+
+    /// Appends `s`. Where memory runs out, the text is as before.
+    pub fn push_str(&mut self, s: &str) -> Result<(), AllocError>
+        ensures { OnOk result (self.new ≡ self.old ++ s.now) }
+    {
+        self.inner.push_str(s)
+    }
+
+    /// Appends one character. Where memory runs out, the text is as before.
+    pub fn push(&mut self, c: char) -> Result<(), AllocError>
+        ensures { OnOk result (self.new ≡ self.old ++ encode_utf8 c) }
+    {
+        self.inner.push(c)
     }
 
     pub fn as_str(&self) -> &str

@@ -1,0 +1,5 @@
+pub mod Digits
+pub mod Found
+pub mod Pairs
+pub mod Differ
+pub mod Says

@@ -1,0 +1,8 @@
+use Rattle.arch_files.proofs.Pairs.{each_more}
+use Rattle.arch_files.specs.FirstForm.{IsInter}
+use Rattle.arch_files.proofs.inter.read_inters.Goals as goal
+
+pub loop-elem-preserved : goal.loop-elem-preserved
+loop-elem-preserved c =
+    each_more IsInter _ c.loop-elem.elem-index c.elem-item.result _ c.in_ok-read_inter.field-0 _ c.loop-elem-test.true c.elem-item.is
+    c.loop-elem.invariant c.in_ok-read_inter.ensures c.in_ok-push.ensures.ok

@@ -1,0 +1,4 @@
+pub mod TreeRows
+pub mod Once
+pub mod Preorder
+pub mod Numbered

@@ -1,0 +1,6 @@
+use Rattle.std.proofs.Common.{◌≡◌, sym, ◌∙◌, arith}
+use Rattle.elem_text.proofs.Comments.{comment_end}
+use Rattle.elem_text.proofs.pieces.behind_comment.Goals as goal
+
+pub returns : goal.returns
+returns c = sym (comment_end c.args.bytes.now c.loop-n.n (omega (arith, c.saturating_sub-n-end.ensures))) ∙ c.loop-n.invariant

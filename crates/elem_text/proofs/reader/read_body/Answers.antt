@@ -1,0 +1,26 @@
+use Rattle.std.proofs.Common.{◌≡◌, ◌<◌, ap, sym, ◌∙◌, arith, length, length-append}
+use Rattle.elem_text.proofs.Spans.{nothing_in}
+use Rattle.elem_text.proofs.Along.{lex_front, along_next, along_found}
+use Rattle.elem_text.proofs.reader.read_body.Goals as goal
+
+pub front_of-requires : goal.front_of-requires
+front_of-requires c =
+    let h = lex_front c.loop-rest.place _ _ _ (c.in-Ok.ensures.whole c.loop-rest.place) in
+    (h.front, h.spelled)
+
+pub loop-rest-smaller : goal.loop-rest-smaller
+loop-rest-smaller c =
+    let h = lex_front c.loop-rest.place _ _ _ (c.in-Ok.ensures.whole c.loop-rest.place) in
+    omega (arith, ap length h.spelled, length-append h.front c.in-Ok.found.1.now, h.some)
+
+pub loop-rest-preserved : goal.loop-rest-preserved
+loop-rest-preserved c = record {
+  along = along_next _ _ _ _ _ _ _ _ _ _ c.loop-rest.invariant.along (c.in-Ok.ensures.whole c.loop-rest.place) c.front_of.ensures
+      c.place_after-place.ensures c.in_default.ensures.ok.0 c.in_default.ensures.ok.1;
+  utf8 = c.in-Ok.ensures.utf8.1;
+}
+
+pub returns-in-Some : goal.returns-in-Some
+returns-in-Some c = record {
+  found = along_found _ _ _ _ _ _ c.loop-rest.invariant.along (nothing_in _ (sym c.is_empty.ensures ∙ c.loop-rest-test.false)) c.in-Some.ensures;
+}

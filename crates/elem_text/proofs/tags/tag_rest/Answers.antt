@@ -1,0 +1,13 @@
+use Rattle.elem_text.proofs.Attrs.{reading_more, reading_end}
+use Rattle.elem_text.proofs.tags.tag_rest.Goals as goal
+
+pub returns-in-End-clause-whole : goal.returns-in-End-clause-whole
+returns-in-End-clause-whole c =
+    reading_end _ _ _ _ _ c.in-End.end c.attrs.invariant.reading c.as_slice.ensures c.in-End.is c.in_ok-end.ensures.whole
+
+pub attrs-preserved : goal.attrs-preserved
+attrs-preserved c = record {
+  reading = rw c.in_ok-push-in-Attr.ensures.ok
+      (reading_more _ _ _ _ _ c.in-Attr.attr c.in-Attr.after c.attrs.invariant.reading c.as_slice.ensures c.in-Attr.is c.in_ok-end.ensures.whole);
+  utf8 = rw c.in-Attr.is at c.in_ok-end.ensures.utf8;
+}

@@ -1,0 +1,206 @@
+ghost use Rattle.std.specs.Prelude.{◌≡◌, ◌∷◌, [], ◌<◌, ◌⊎◌, ℕ, List, Some, None, Bool, IfOk, IfSome, IsTrue, ◌↔◌, MatchOption, IsUtf8, length};
+ghost use Rattle.vtr_base.specs.declared.place.Place.{Place};
+ghost use Rattle.elem_text.specs.Bytes.{is_white, IsSpan, IsNamed};
+ghost use Rattle.elem_text.specs.References.{decoded};
+ghost use Rattle.elem_text.specs.Grammar.{HasName, IsQuote, IsQuoted, IsAttr, Attributes, tail_of, IsStartTag, IsEndTag, IsLex};
+ghost use Rattle.elem_text.specs.Lexed.{lexed, IsUtf8Lex};
+ghost use Rattle.elem_text.specs.Next.{IsNext, behind_next};
+
+use crate::bytes::{begins_with_letter, byte, until, white, word};
+use crate::elem::Attr;
+use crate::lex::{Flaw, Lex};
+use crate::references::{decode, kept};
+use sqlite_items::Items;
+use std::alloc::{AllocError, Global};
+use vtr_base::Text;
+
+/// Which flaw it is that a byte is missing before `bytes`.
+pub fn ended(bytes: &[u8]) -> Flaw {
+    if bytes.is_empty() {
+        Flaw::Cut
+    } else {
+        Flaw::Bad
+    }
+}
+
+/// The name at the front, and the rest.
+fn name(bytes: &[u8]) -> Result<(&[u8], &[u8]), Flaw>
+    ensures whole { IfOk result (λ r. IsNamed bytes.now r.0.now r.1.now) }
+{
+    if !begins_with_letter(bytes) {
+        return Err(ended(bytes));
+    }
+    Ok(word(bytes))
+}
+
+/// The quote at the front, and the rest.
+fn quote(bytes: &[u8]) -> Result<(u8, &[u8]), Flaw>
+    ensures whole { IfOk result (λ r. (bytes.now ≡ r.0 ∷ r.1.now) × IsQuote r.0) }
+{
+    if let Some(rest) = byte(bytes, b'"') {
+        return Ok((b'"', rest));
+    }
+    if let Some(rest) = byte(bytes, b'\'') {
+        return Ok((b'\'', rest));
+    }
+    Err(ended(bytes))
+}
+
+/// What stands between the quotes at the front, and the rest.
+fn quoted(bytes: &[u8]) -> Result<(&[u8], &[u8]), Flaw>
+    ensures whole { IfOk result (λ r. IsQuoted bytes.now r.0.now r.1.now) }
+{
+    let (mark, rest) = quote(bytes)?;
+    let (raw, rest) = until(rest, mark);
+    let Some(after) = byte(rest, mark) else {
+        return Err(Flaw::Cut);
+    };
+    Ok((raw, after))
+}
+
+/// What follows `b`, before which white space may stand.
+fn sign(bytes: &[u8], b: u8) -> Result<&[u8], Flaw>
+    ensures whole { IfOk result (λ rest. (gap : List ℕ) × IsSpan is_white bytes.now gap (b ∷ rest.now)) }
+{
+    let (_, rest) = white(bytes);
+    let Some(after) = byte(rest, b) else {
+        return Err(ended(rest));
+    };
+    Ok(after)
+}
+
+/// An attribute as it stands in the file, and what follows it.
+#[derive(Drop)]
+struct RawAttr<'a> {
+    name: &'a [u8],
+    raw: &'a [u8],
+    after: &'a [u8],
+}
+
+/// The attribute at the front, whose name none of `before` has.
+fn attr<'a>(bytes: &'a [u8], before: &[Attr]) -> Result<RawAttr<'a>, Flaw>
+    ensures whole { IfOk result (λ r. IsAttr bytes.now r.name.now r.raw.now r.after.now) }
+    ensures own { IfOk result (λ r. HasName before.now r.name.now → ⊥) }
+{
+    let (name, rest) = name(bytes)?;
+    if rest.is_empty() {
+        return Err(Flaw::Cut);
+    }
+    if stands(before, name) {
+        return Err(Flaw::Bad);
+    }
+    let rest = sign(rest, b'=')?;
+    let (_, rest) = white(rest);
+    let (raw, after) = quoted(rest)?;
+    Ok(RawAttr { name, raw, after })
+}
+
+/// Whether one of the attributes has this name.
+fn stands(attrs: &[Attr], name: &[u8]) -> bool
+    ensures { IsTrue result ↔ HasName attrs.now name.now }
+{
+    for attr in attrs {
+        if attr.name.is(name) {
+            return true;
+        }
+    }
+    false
+}
+
+/// How a tag ends, and what follows it.
+#[derive(Drop)]
+pub struct TagEnd<'a> {
+    pub empty: bool,
+    pub rest: &'a [u8],
+}
+
+/// The end of a tag, where one stands here.
+fn tag_end(bytes: &[u8]) -> Result<Option<TagEnd<'_>>, Flaw>
+    ensures whole { IfOk result (λ t. IfSome t (λ end. bytes.now ≡ tail_of end.empty end.rest.now)) }
+{
+    if let Some(rest) = byte(bytes, b'>') {
+        return Ok(Some(TagEnd { empty: false, rest }));
+    }
+    let Some(rest) = byte(bytes, b'/') else {
+        return Ok(None);
+    };
+    let Some(rest) = byte(rest, b'>') else {
+        return Err(ended(rest));
+    };
+    Ok(Some(TagEnd { empty: true, rest }))
+}
+
+/// What stands next in a start tag: its end, or an attribute and what follows that.
+#[derive(Drop)]
+pub enum Next<'a> {
+    End(TagEnd<'a>),
+    Attr(Attr, &'a [u8]),
+}
+
+/// What stands behind the attributes `before`, and behind white space.
+fn next_in_tag<'a>(alloc: Global, bytes: &'a [u8], before: &[Attr]) -> Result<Next<'a>, Flaw>
+    requires { IsUtf8 bytes.now }
+    ensures whole { IfOk result (λ n. IsNext before.now bytes.now n) }
+    ensures utf8 { IfOk result (λ n. IsUtf8 (behind_next n)) }
+{
+    let (gap, rest) = white(bytes);
+    if let Some(end) = tag_end(rest)? {
+        return Ok(Next::End(end));
+    }
+    if gap.is_empty() {
+        return Err(ended(rest));
+    }
+    let found = attr(rest, before)?;
+    let name = kept(alloc, found.name)?;
+    let value = decode(alloc, found.raw)?;
+    Ok(Next::Attr(Attr { name, value }, found.after))
+}
+
+/// The attributes of a start tag, and how it ends.
+#[derive(Drop)]
+pub struct TagRest<'a> {
+    pub attrs: Items<Attr>,
+    pub end: TagEnd<'a>,
+}
+
+/// What follows the name of a start tag.
+fn tag_rest(alloc: Global, bytes: &[u8]) -> Result<TagRest<'_>, Flaw>
+    requires { IsUtf8 bytes.now }
+    ensures whole { IfOk result (λ r. Attributes [] bytes.now r.attrs (tail_of r.end.empty r.end.rest.now)) }
+    ensures utf8 { IfOk result (λ r. IsUtf8 r.end.rest.now) }
+{
+    let mut attrs = Items::new(alloc);
+    let mut left = bytes;
+    'attrs: loop {
+        match next_in_tag(alloc, left, attrs.as_slice())? {
+            Next::End(end) => return Ok(TagRest { attrs, end }),
+            Next::Attr(attr, after) => {
+                attrs.push(attr)?;
+                left = after;
+            }
+        }
+    }
+}
+
+/// The start tag whose `<` stands before `inside`, and what follows it.
+pub fn start_tag(alloc: Global, inside: &[u8]) -> Result<(Lex<'_>, &[u8]), Flaw>
+    requires { IsUtf8 inside.now }
+    ensures whole { IfOk result (λ r. (at : Place) → IsLex at (60 ∷ inside.now) (lexed at r.0) r.1.now) }
+    ensures utf8 { IfOk result (λ r. IsUtf8Lex r.0 × IsUtf8 r.1.now) }
+{
+    let (name, rest) = name(inside)?;
+    let TagRest { attrs, end } = tag_rest(alloc, rest)?;
+    if end.empty {
+        return Ok((Lex::Hollow(name, attrs), end.rest));
+    }
+    Ok((Lex::Opens(name, attrs), end.rest))
+}
+
+/// The end tag whose `</` stands before `inside`, and what follows it.
+pub fn end_tag(inside: &[u8]) -> Result<(&[u8], &[u8]), Flaw>
+    ensures whole { IfOk result (λ r. IsEndTag (60 ∷ 47 ∷ inside.now) r.0.now r.1.now) }
+{
+    let (name, rest) = name(inside)?;
+    let rest = sign(rest, b'>')?;
+    Ok((name, rest))
+}

@@ -1,0 +1,4 @@
+pub mod Lists
+pub mod RowLemmas
+pub mod Insides
+pub mod Blocks
