@@ -1,5 +1,5 @@
 -- The files that a map from names to bytes holds.
-use Rattle.std.specs.Prelude.{ℕ, List, map, String, string_bytes, Vec, vec_items}
+use Rattle.std.specs.Prelude.{ℕ, map, String, string_bytes, Vec, vec_items}
 use Rattle.std.specs.BTreeMap.{BTreeMap}
 use Rattle.std.specs.FinMap.{from_entries}
 use Rattle.vtr_base.specs.Outside.{Files}

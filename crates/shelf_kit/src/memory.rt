@@ -70,6 +70,7 @@ impl Shelf for MemShelf {
         ensures never_missing { IsErrOf result ShelfError.Missing → ⊥ }
         ensures never_long { IsErrOf result ShelfError.TooLong → ⊥ }
     {
+        // First, so that a failing call leaves the file as it is.
         if starts_failing(self.fails.as_slice(), &mut self.calls, &mut self.faults) {
             return Err(ShelfError::Failed);
         }

@@ -77,7 +77,7 @@ fn one_file(alloc: Global, name: &str, bytes: &[u8]) -> Result<BTreeMap<String, 
 fn a_planned_call_fails_and_changes_no_file(rt: HostRuntime) -> Result<(), Fail> {
     let alloc = rt.alloc();
     let files = one_file(alloc, "a", b"xyz")?;
-    let mut shelf = MemShelf::new(alloc, files, vec![in alloc; 1, 4]?);
+    let mut shelf = MemShelf::new(alloc, files, vec![in alloc; 1, 4, 6]?);
     let mut into = vec![in alloc; 7u8]?;
     assert_eq!(rt; shelf.fetch("a", 3, &mut into), Ok(()));
     assert_eq!(rt; into.as_slice(), b"xyz".as_slice());
@@ -88,10 +88,13 @@ fn a_planned_call_fails_and_changes_no_file(rt: HostRuntime) -> Result<(), Fail>
     assert_eq!(rt; shelf.fetch("b", 2, &mut into), Err(ShelfError::Missing));
     assert_eq!(rt; shelf.faults, 1);
     assert_eq!(rt; shelf.fetch("a", 9, &mut into), Err(ShelfError::Failed));
-    assert_eq!(rt; shelf.begin("b"), Ok(()));
+    shelf.begin("b")?;
+    assert_eq!(rt; shelf.append("b", b"p"), Err(ShelfError::Failed));
     assert_eq!(rt; shelf.files.get("b"), Some(b"".as_slice()));
-    assert_eq!(rt; shelf.calls, 6);
-    assert_eq!(rt; shelf.faults, 2);
+    assert_eq!(rt; shelf.append("b", b"q"), Ok(()));
+    assert_eq!(rt; shelf.files.get("b"), Some(b"q".as_slice()));
+    assert_eq!(rt; shelf.calls, 8);
+    assert_eq!(rt; shelf.faults, 3);
     Ok(())
 }
 
@@ -130,7 +133,10 @@ fn real_files_and_standard_output(rt: HostRuntime) -> Result<(), Fail> {
     let name = "shelf_kit_real.txt";
     let mut shelf = RealShelf::new(&rt);
     let mut into = vec![in alloc; 7u8]?;
-    assert_eq!(rt; shelf.fetch("shelf_kit_absent.txt", 9, &mut into), Err(ShelfError::Missing));
+    assert_eq!(rt;
+        shelf.fetch("shelf_kit_absent.txt", 9, &mut into),
+        Err(ShelfError::Missing)
+    );
     assert_eq!(rt; shelf.begin(name), Ok(()));
     assert_eq!(rt; shelf.append(name, b"ab"), Ok(()));
     assert_eq!(rt; shelf.append(name, b"c"), Ok(()));

@@ -1,5 +1,5 @@
 use Rattle.std.proofs.Common.{◌≡◌, Some, None, ap, sym, ◌∙◌, option_map, vec_items, rules}
-use Rattle.vtr_base.specs.Outside.{file, with_file}
+use Rattle.vtr_base.specs.Outside.{file}
 use Rattle.shelf_kit.specs.Held.{held}
 use Rattle.shelf_kit.proofs.Files.{file_held, held_updated, appended_or_same}
 use Rattle.shelf_kit.proofs.file_map.FileMap.append.Goals as goal
