@@ -1,5 +1,5 @@
 -- Two lists, item by item.
-use Rattle.std.proofs.Common.{◌≡◌, ◌+◌, ◌<◌, ℕ, List, [], ◌∷◌, ◌++◌, length, take, suc, get_or, subst, sym, arith}
+use Rattle.std.proofs.Common.{◌≡◌, ◌+◌, ◌<◌, ℕ, List, [], ◌∷◌, ◌++◌, length, take, get_or, subst, sym}
 use Rattle.std.proofs.lemmas.List.{take_more}
 use Rattle.arch_files.specs.Attributes.{Each}
 

@@ -1,10 +1,9 @@
 -- What was read of the elements, put together.
-use Rattle.std.proofs.Common.{◌≡◌, ℕ, List, [], ◌∷◌, ◌++◌, map, codes, refl, sym, ◌∙◌, ap, subst}
+use Rattle.std.proofs.Common.{◌≡◌, ℕ, List, [], ◌∷◌, ◌++◌, map, codes, sym, ◌∙◌, ap, subst}
 use Rattle.arch_types.specs.declared.arch.Arch.{Arch}
 use Rattle.arch_types.specs.declared.block.PbType.{PbType}
 use Rattle.arch_types.specs.declared.block.Kind.TheVariants as kind
 use Rattle.arch_types.specs.declared.block.Mode.{Mode}
-use Rattle.arch_types.specs.declared.block.Port.{Port}
 use Rattle.arch_types.specs.Tree.{kids_of}
 use Rattle.elem_text.specs.declared.elem.Elem.{Elem}
 use Rattle.arch_files.specs.Attributes.{HasAttribute, LacksAttribute, HasNumberOr, Each}

@@ -2,11 +2,9 @@
 -- "Complex blocks"): one block type, its ports, LUT leaves, and one interconnect among them.
 use Rattle.std.specs.Prelude.{◌≡◌, ◌≤◌, ◌⊎◌, ℕ, List, [], ◌∷◌, ◌++◌, map, codes}
 use Rattle.std.specs.List.{AllPass}
-use Rattle.vtr_base.specs.Lists.{Has}
 use Rattle.vtr_base.specs.Spans.{is_white}
 use Rattle.arch_types.specs.declared.arch.Arch.{Arch}
 use Rattle.arch_types.specs.declared.block.PbType.{PbType}
-use Rattle.arch_types.specs.declared.block.Kind.{Kind}
 use Rattle.arch_types.specs.declared.block.Kind.TheVariants as kind
 use Rattle.arch_types.specs.declared.block.Mode.{Mode}
 use Rattle.arch_types.specs.declared.block.Port.{Port}

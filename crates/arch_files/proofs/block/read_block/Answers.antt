@@ -1,4 +1,4 @@
-use Rattle.std.proofs.Common.{◌≡◌, ◌∷◌, ◌++◌, [], map, sym, ◌∙◌, ap, refl, arith}
+use Rattle.std.proofs.Common.{◌∷◌, ◌++◌, [], map, ◌∙◌, ap, refl}
 use Rattle.arch_files.proofs.Says.{block_says}
 use Rattle.arch_files.proofs.block.read_block.Goals as goal
 
