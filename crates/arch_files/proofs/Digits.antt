@@ -2,7 +2,7 @@
 use Rattle.std.proofs.Common.{◌≡◌, ◌+◌, ◌*◌, ◌<◌, ◌≤◌, ℕ, List, [], ◌∷◌, length, drop, suc, get_or, refl, sym, subst, arith, drop-cons, add-one}
 use Rattle.std.specs.Char.{digit_value}
 use Rattle.std.specs.Str.Parse.{AllDigits, digits_value, digits_value_after}
-use Rattle.arch_files.specs.Attributes.{SpellsNumber, IsWidth}
+use Rattle.arch_files.specs.Attributes.{IsWidth}
 
 -- what was read of a text, seen from what is left of it
 pub record IsReading (text rest : List ℕ) (value : ℕ) : Type 0 where

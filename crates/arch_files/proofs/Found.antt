@@ -1,21 +1,25 @@
--- What stands in a list, found by its index.
-use Rattle.std.proofs.Common.{◌≡◌, ◌+◌, ◌<◌, ℕ, List, [], ◌∷◌, length, drop, zero, suc, get_or, subst, inl, inr, arith, drop-cons, add-one}
-use Rattle.vtr_base.specs.Lists.{Has}
+-- The first attribute of a name.
+use Rattle.std.proofs.Common.{◌≡◌, ◌+◌, ◌<◌, ℕ, Bool, true, false, cond, List, [], ◌∷◌, Option, Some, None, length, drop, suc, get_or, refl, sym, ◌∙◌, ap, subst, arith, drop-cons, add-one}
+use Rattle.std.specs.Str.{bytes_eq}
+use Rattle.std.proofs.lemmas.Bool.{false_from_ne_true}
+use Rattle.std.proofs.lemmas.Slice.Eq.{bytes_eq-Decides}
 use Rattle.elem_text.specs.declared.elem.Attr.{Attr}
-use Rattle.arch_files.specs.Attributes.{attribute}
+use Rattle.arch_files.specs.Attributes.{value_of}
 
-pub has_at : {X : Type 0} (xs : List X) (i : ℕ) (x : X) → i < length xs → x ≡ get_or xs i x → Has xs x
-has_at [] i x inside is = absurd (omega arith)
-has_at (y ∷ ys) zero x inside is = inl is
-has_at (y ∷ ys) (suc i) x inside is = inr (has_at ys i x (omega arith) is)
+value_here : (a : Attr) (attrs : List Attr) (name : List ℕ) → a.name ≡ name → value_of (a ∷ attrs) name ≡ Some a.value
+value_here a attrs name named = ap (λ b. cond b (Some a.value) (value_of attrs name)) ((bytes_eq-Decides a.name name).1 named)
 
--- what isn't the item here stands behind it
-pub has_behind : {X : Type 0} (xs : List X) (i : ℕ) (d x : X) → i < length xs → (x ≡ get_or xs i d → ⊥) → Has (drop i xs) x → Has (drop (i + 1) xs) x
-has_behind xs i d x inside apart has =
-    let cut : Has (get_or xs i d ∷ drop (suc i) xs) x = subst (λ r. Has r x) (drop-cons xs i d inside) has in
-    rw add-one (elim cut [ inl is ↦ absurd (apart is) | inr later ↦ later ])
+value_later : (a : Attr) (attrs : List Attr) (name : List ℕ) → (a.name ≡ name → ⊥) → value_of (a ∷ attrs) name ≡ value_of attrs name
+value_later a attrs name other =
+    ap (λ b. cond b (Some a.value) (value_of attrs name)) (false_from_ne_true _ (λ same. other ((bytes_eq-Decides a.name name).0 same)))
 
-pub attribute_at : (items attrs : List Attr) (i : ℕ) (name : List ℕ) (a : Attr) → items ≡ attrs → i < length items → a ≡ get_or items i a →
-    a.name ≡ name → Has attrs (attribute name a.value)
-attribute_at items attrs i name a same inside is named =
-    subst (λ l. Has l (attribute name a.value)) same (subst (λ n. Has items (attribute n a.value)) named (has_at items i a inside is))
+module _ (items : List Attr) (i : ℕ) (name : List ℕ) (a : Attr) (inside : i < length items) (is : a ≡ get_or items i a) (left : value_of (drop i items) name ≡ value_of items name) where
+  cut : drop i items ≡ a ∷ drop (suc i) items
+  cut = drop-cons items i a inside ∙ ap (λ x. x ∷ drop (suc i) items) (sym is)
+
+  pub found : (attrs : List Attr) → items ≡ attrs → a.name ≡ name → value_of attrs name ≡ Some a.value
+  found attrs same named =
+      subst (λ l. value_of l name ≡ Some a.value) same (sym left ∙ (ap (λ l. value_of l name) cut ∙ value_here a (drop (suc i) items) name named))
+
+  pub found_later : (a.name ≡ name → ⊥) → value_of (drop (i + 1) items) name ≡ value_of items name
+  found_later other = rw add-one (sym (value_later a (drop (suc i) items) name other) ∙ (sym (ap (λ l. value_of l name) cut) ∙ left))

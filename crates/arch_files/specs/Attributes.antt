@@ -1,20 +1,22 @@
 -- Attributes of an element, and numbers that they hold.
-use Rattle.std.specs.Prelude.{◌≡◌, ◌≤◌, ◌⊎◌, ℕ, List, [], ◌∷◌}
+use Rattle.std.specs.Prelude.{◌≡◌, ◌≤◌, ◌⊎◌, ℕ, Bool, true, false, cond, if◌then◌else◌, List, [], ◌∷◌, Option, Some, None}
+use Rattle.std.specs.Str.{bytes_eq}
 use Rattle.std.specs.Str.Parse.{IsNumeral, digits_value}
-use Rattle.vtr_base.specs.Lists.{Has}
 use Rattle.elem_text.specs.declared.elem.Attr.{Attr}
 use Rattle.elem_text.specs.declared.elem.Elem.{Elem, out-Elem}
 
-abbrev pub attribute : List ℕ → List ℕ → Attr
-attribute name value = record { name = name; value = value }
+-- the value of the first attribute of this name
+abbrev pub value_of : List Attr → List ℕ → Option (List ℕ)
+value_of [] name = None
+value_of (a ∷ attrs) name = if bytes_eq a.name name then Some a.value else value_of attrs name
 
--- the element has this attribute with this value
+-- the element has an attribute of this name, and the first of them has this value
 abbrev pub HasAttribute : Elem → List ℕ → List ℕ → Type 0
-HasAttribute e name value = Has (out-Elem e).attrs (attribute name value)
+HasAttribute e name value = value_of (out-Elem e).attrs name ≡ Some value
 
 -- the element has no attribute of this name
 abbrev pub LacksAttribute : Elem → List ℕ → Type 0
-LacksAttribute e name = (value : List ℕ) → HasAttribute e name value → ⊥
+LacksAttribute e name = value_of (out-Elem e).attrs name ≡ None
 
 -- decimal digits of any length that spell the number
 pub record SpellsNumber (text : List ℕ) (n : ℕ) : Type 0 where

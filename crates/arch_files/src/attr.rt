@@ -1,5 +1,9 @@
-ghost use Rattle.std.specs.Prelude.{◌≡◌, ◌↔◌, codes, IfOk, IsTrue, MatchOption};
+ghost use Rattle.std.specs.Prelude.{◌≡◌, ◌↔◌, [], codes, IsTrue, MatchOption};
+ghost use Rattle.std.specs.List.{AllPass};
+ghost use Rattle.vtr_base.specs.Spans.{is_white};
+ghost use Rattle.elem_text.specs.declared.elem.Elem.{out-Elem};
 ghost use Rattle.arch_files.specs.Attributes.{HasAttribute, LacksAttribute, HasNumberOr};
+ghost use Rattle.arch_files.specs.Exact.{Answers};
 ghost use Rattle.arch_files.specs.FirstForm.{Holds, HoldsNone};
 ghost use Rattle.arch_files.specs.Names.{IsPlainName};
 
@@ -19,6 +23,13 @@ pub fn children<'a>(elem: &'a Elem, name: &[u8]) -> Option<&'a [Elem]>
     } else {
         None
     }
+}
+
+/// Whether the element has no children, and no text but white space.
+pub fn is_hollow(elem: &Elem) -> bool
+    ensures { IsTrue result ↔ ((out-Elem elem.now).kids ≡ []) × AllPass is_white (out-Elem elem.now).text }
+{
+    elem.kids.is_empty() && is_blank(elem.text.as_bytes())
 }
 
 /// The value of the first attribute of this name.
@@ -42,7 +53,7 @@ pub fn lacks(elem: &Elem, name: &[u8]) -> bool
 
 /// Whether the parent has one instance, as it has where the attribute `num_pb` isn't there.
 pub fn is_single(elem: &Elem) -> bool
-    ensures { IsTrue result → HasNumberOr elem.now (codes "num_pb") 1 1 }
+    ensures { IsTrue result ↔ HasNumberOr elem.now (codes "num_pb") 1 1 }
 {
     match attribute(elem, b"num_pb") {
         Some(digits) => read_width(digits.as_bytes()) == Some(1),
@@ -52,21 +63,23 @@ pub fn is_single(elem: &Elem) -> bool
 
 /// The element's `name`, where it is a plain one.
 pub fn plain_name(alloc: Global, elem: &Elem) -> Result<Text, ArchError>
-    ensures has { IfOk result (λ t. HasAttribute elem.now (codes "name") t) }
-    ensures plain { IfOk result (λ t. IsPlainName t) }
+    ensures { Answers result (λ t. HasAttribute elem.now (codes "name") t × IsPlainName t) }
 {
-    let name = attribute(elem, b"name").ok_or(ArchError::NotBuilt)?;
-    if is_plain_name(name.as_bytes()) {
-        Ok(name.copy(alloc)?)
-    } else {
-        Err(ArchError::NotBuilt)
+    let Some(name) = attribute(elem, b"name") else {
+        return Err(ArchError::NotBuilt);
+    };
+    if !is_plain_name(name.as_bytes()) {
+        return Err(ArchError::NotBuilt);
     }
+    Ok(name.copy(alloc)?)
 }
 
 /// The value of a required attribute.
 pub fn copied(alloc: Global, elem: &Elem, name: &[u8]) -> Result<Text, ArchError>
-    ensures { IfOk result (λ t. HasAttribute elem.now name.now t) }
+    ensures { Answers result (λ t. HasAttribute elem.now name.now t) }
 {
-    let value = attribute(elem, name).ok_or(ArchError::NotBuilt)?;
+    let Some(value) = attribute(elem, name) else {
+        return Err(ArchError::NotBuilt);
+    };
     Ok(value.copy(alloc)?)
 }

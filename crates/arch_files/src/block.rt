@@ -1,6 +1,6 @@
-ghost use Rattle.std.specs.Prelude.{◌≡◌, ◌≤◌, ◌∷◌, ◌++◌, [], map, length, codes, IfSome, IfOk, IsTrue};
-ghost use Rattle.arch_files.specs.Attributes.{LacksAttribute, Each};
-ghost use Rattle.arch_files.specs.FirstForm.{IsBlock, IsImpliedMode, IsLut};
+ghost use Rattle.std.specs.Prelude.{◌≡◌, ◌↔◌, ◌≤◌, [], ◌∷◌, map, take, drop, length, IfOk, IsTrue, MatchOption};
+ghost use Rattle.arch_files.specs.Exact.{Answers};
+ghost use Rattle.arch_files.specs.FirstForm.{AreNamedPorts, StopsPorts, ArePartedAt, IsBlock, IsJoined};
 ghost use Rattle.arch_files.specs.Names.{AllDiffer};
 ghost use Rattle.arch_types.specs.Tree.{kids_of};
 
@@ -18,25 +18,33 @@ use vtr_base::Text;
 
 /// How many of the elements, from the first on, are ports by their names.
 fn count_ports(elems: &[Elem]) -> usize
-    ensures { result ≤ length elems.now }
+    ensures within { result ≤ length elems.now }
+    ensures named { AreNamedPorts (take result elems.now) }
+    ensures stops { StopsPorts (drop result elems.now) }
 {
-    let mut count = 0;
-    for elem in elems {
-        if side_of(elem).is_none() {
-            break;
-        }
-        count += 1;
+    for (i, elem) in elems.iter().enumerate() {
+        let Some(_) = side_of(elem) else {
+            return i;
+        };
     }
-    count
+    elems.len()
 }
 
 /// The elements of a block type: its ports, what stands behind them, and the last.
 fn parts(elems: &[Elem]) -> Option<(&[Elem], &[Elem], &Elem)>
-    ensures { IfSome result (λ p. elems.now ≡ p.0.now ++ (p.1.now ++ p.2.now ∷ [])) }
+    ensures { MatchOption result (elems.now ≡ []) (λ p. ArePartedAt elems.now p.0.now p.1.now p.2.now) }
 {
     let (last, front) = elems.split_last()?;
-    let (ports, leaves) = front.split_at(count_ports(front));
-    Some((ports, leaves, last))
+    let (ports, others) = front.split_at(count_ports(front));
+    Some((ports, others, last))
+}
+
+/// Whether no child has the name of the block or of another child.
+fn have_names_apart(alloc: Global, name: &Text, kids: &[PbType]) -> Result<bool, AllocError>
+    ensures { IfOk result (λ apart. IsTrue apart ↔ AllDiffer (name.now ∷ map (λ kid. kid.name) kids.now)) }
+{
+    let names = names_of(alloc, name, kids)?;
+    all_differ(alloc, names.as_slice())
 }
 
 /// The names of a block and of its children.
@@ -57,35 +65,45 @@ fn names_of<'a>(
 
 /// The one mode of a block that names none: its leaves, and what joins them.
 fn read_mode(alloc: Global, luts: Items<PbType>, interconnect: &Elem) -> Result<Mode, ArchError>
-    ensures implied { IfOk result (λ m. (leaves : _) → Each IsLut leaves luts → IsImpliedMode leaves interconnect.now m) }
-    ensures kids { IfOk result (λ m. kids_of m ≡ luts) }
+    ensures { Answers result (λ m. (kids_of m ≡ luts) × IsJoined interconnect.now m) }
 {
-    let elems = children(interconnect, b"interconnect").ok_or(ArchError::NotBuilt)?;
+    let Some(elems) = children(interconnect, b"interconnect") else {
+        return Err(ArchError::NotBuilt);
+    };
+    let inters = read_inters(alloc, elems)?;
     Ok(Mode {
         name: Text::from_str(alloc, "default")?,
         kids: luts,
-        inters: read_inters(alloc, elems)?,
+        inters,
         metas: Items::new(alloc),
     })
 }
 
 /// A block type of the first form.
 pub fn read_block(alloc: Global, elem: &Elem) -> Result<PbType, ArchError>
-    ensures { IfOk result (λ p. IsBlock elem.now p) }
+    ensures { Answers result (λ p. IsBlock elem.now p) }
 {
-    let elems = children(elem, b"pb_type").ok_or(ArchError::NotBuilt)?;
-    if !lacks(elem, b"blif_model") || !is_single(elem) {
+    let Some(elems) = children(elem, b"pb_type") else {
+        return Err(ArchError::NotBuilt);
+    };
+    if !lacks(elem, b"blif_model") {
+        return Err(ArchError::NotBuilt);
+    }
+    if !is_single(elem) {
         return Err(ArchError::NotBuilt);
     }
     let name = plain_name(alloc, elem)?;
-    let (ports, leaves, interconnect) = parts(elems).ok_or(ArchError::NotBuilt)?;
+    let Some((ports, leaves, interconnect)) = parts(elems) else {
+        return Err(ArchError::NotBuilt);
+    };
     let ports = read_ports(alloc, ports)?;
     let luts = read_luts(alloc, leaves)?;
-    if !all_differ(alloc, names_of(alloc, &name, luts.as_slice())?.as_slice())? {
+    if !have_names_apart(alloc, &name, luts.as_slice())? {
         return Err(ArchError::NotBuilt);
     }
+    let mode = read_mode(alloc, luts, interconnect)?;
     let mut modes = Items::new(alloc);
-    modes.push(read_mode(alloc, luts, interconnect)?)?;
+    modes.push(mode)?;
     Ok(PbType {
         name,
         count: 1,

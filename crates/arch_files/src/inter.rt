@@ -1,12 +1,13 @@
-ghost use Rattle.std.specs.Prelude.{◌≡◌, codes, IfSome, IfOk};
+ghost use Rattle.std.specs.Prelude.{◌≡◌, codes, MatchOption};
 ghost use Rattle.arch_files.specs.Attributes.{HasAttribute, Each};
-ghost use Rattle.arch_files.specs.FirstForm.{Holds, IsInter, inter_name};
+ghost use Rattle.arch_files.specs.Exact.{Answers};
+ghost use Rattle.arch_files.specs.FirstForm.{IsInter, IsNoInter, inter_name};
 ghost use Rattle.arch_files.specs.Names.{IsDarkName};
 ghost use Rattle.arch_types.specs.declared.block.InterKind.TheVariants.{Complete};
 ghost use Rattle.elem_text.specs.declared.elem.Elem.{out-Elem};
 
 use crate::ArchError;
-use crate::attr::{attribute, children, copied};
+use crate::attr::{attribute, copied, is_hollow};
 use crate::name::is_dark_name;
 use arch_types::{Inter, InterKind};
 use elem_text::Elem;
@@ -16,8 +17,7 @@ use vtr_base::Text;
 
 /// How the element joins pins by its name.
 fn kind_of(elem: &Elem) -> Option<InterKind>
-    ensures named { IfSome result (λ kind. (out-Elem elem.now).name ≡ inter_name kind) }
-    ensures read { IfSome result (λ kind. kind ≡ Complete → ⊥) }
+    ensures { MatchOption result (IsNoInter elem.now) (λ kind. ((out-Elem elem.now).name ≡ inter_name kind) × (kind ≡ Complete → ⊥)) }
 {
     if elem.name.is(b"direct") {
         Some(InterKind::Direct)
@@ -30,31 +30,35 @@ fn kind_of(elem: &Elem) -> Option<InterKind>
 
 /// The `name` of an interconnect, where it has one without white space.
 fn dark_name(alloc: Global, elem: &Elem) -> Result<Text, ArchError>
-    ensures has { IfOk result (λ t. HasAttribute elem.now (codes "name") t) }
-    ensures dark { IfOk result (λ t. IsDarkName t) }
+    ensures { Answers result (λ t. HasAttribute elem.now (codes "name") t × IsDarkName t) }
 {
-    let name = attribute(elem, b"name").ok_or(ArchError::NotBuilt)?;
-    if is_dark_name(name.as_bytes()) {
-        Ok(name.copy(alloc)?)
-    } else {
-        Err(ArchError::NotBuilt)
+    let Some(name) = attribute(elem, b"name") else {
+        return Err(ArchError::NotBuilt);
+    };
+    if !is_dark_name(name.as_bytes()) {
+        return Err(ArchError::NotBuilt);
     }
+    Ok(name.copy(alloc)?)
 }
 
 /// One `direct` or `mux`.
 fn read_inter(alloc: Global, elem: &Elem) -> Result<Inter, ArchError>
-    ensures { IfOk result (λ i. IsInter elem.now i) }
+    ensures { Answers result (λ i. IsInter elem.now i) }
 {
-    let kind = kind_of(elem).ok_or(ArchError::NotBuilt)?;
-    let kids = children(elem, elem.name.as_bytes()).ok_or(ArchError::NotBuilt)?;
-    if !kids.is_empty() {
+    let Some(kind) = kind_of(elem) else {
+        return Err(ArchError::NotBuilt);
+    };
+    if !is_hollow(elem) {
         return Err(ArchError::NotBuilt);
     }
+    let name = dark_name(alloc, elem)?;
+    let input = copied(alloc, elem, b"input")?;
+    let output = copied(alloc, elem, b"output")?;
     Ok(Inter {
-        name: dark_name(alloc, elem)?,
+        name,
         kind,
-        input: copied(alloc, elem, b"input")?,
-        output: copied(alloc, elem, b"output")?,
+        input,
+        output,
         patterns: Items::new(alloc),
         metas: Items::new(alloc),
     })
@@ -62,7 +66,7 @@ fn read_inter(alloc: Global, elem: &Elem) -> Result<Inter, ArchError>
 
 /// The interconnects of a mode, in their order.
 pub fn read_inters(alloc: Global, elems: &[Elem]) -> Result<Items<Inter>, ArchError>
-    ensures { IfOk result (λ inters. Each IsInter elems.now inters) }
+    ensures { Answers result (λ inters. Each IsInter elems.now inters) }
 {
     let mut inters = Items::new(alloc);
     for elem in elems {

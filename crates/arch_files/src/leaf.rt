@@ -1,5 +1,6 @@
-ghost use Rattle.std.specs.Prelude.{◌≡◌, codes, IfSome, IfOk, IsTrue};
+ghost use Rattle.std.specs.Prelude.{◌↔◌, codes, IsTrue};
 ghost use Rattle.arch_files.specs.Attributes.{HasAttribute, Each};
+ghost use Rattle.arch_files.specs.Exact.{Answers};
 ghost use Rattle.arch_files.specs.FirstForm.{IsLut};
 
 use crate::ArchError;
@@ -12,7 +13,7 @@ use std::alloc::Global;
 
 /// Whether the element's `blif_model` is the one of a LUT.
 fn is_names(elem: &Elem) -> bool
-    ensures { IsTrue result → HasAttribute elem.now (codes "blif_model") (codes ".names") }
+    ensures { IsTrue result ↔ HasAttribute elem.now (codes "blif_model") (codes ".names") }
 {
     match attribute(elem, b"blif_model") {
         Some(model) => model.is(b".names"),
@@ -22,10 +23,15 @@ fn is_names(elem: &Elem) -> bool
 
 /// One LUT, of which its parent has one.
 fn read_lut(alloc: Global, elem: &Elem) -> Result<PbType, ArchError>
-    ensures { IfOk result (λ p. IsLut elem.now p) }
+    ensures { Answers result (λ p. IsLut elem.now p) }
 {
-    let kids = children(elem, b"pb_type").ok_or(ArchError::NotBuilt)?;
-    if !is_names(elem) || !is_single(elem) {
+    let Some(kids) = children(elem, b"pb_type") else {
+        return Err(ArchError::NotBuilt);
+    };
+    if !is_names(elem) {
+        return Err(ArchError::NotBuilt);
+    }
+    if !is_single(elem) {
         return Err(ArchError::NotBuilt);
     }
     let name = plain_name(alloc, elem)?;
@@ -44,7 +50,7 @@ fn read_lut(alloc: Global, elem: &Elem) -> Result<PbType, ArchError>
 
 /// The leaves of a block type, in their order.
 pub fn read_luts(alloc: Global, elems: &[Elem]) -> Result<Items<PbType>, ArchError>
-    ensures { IfOk result (λ luts. Each IsLut elems.now luts) }
+    ensures { Answers result (λ luts. Each IsLut elems.now luts) }
 {
     let mut luts = Items::new(alloc);
     for elem in elems {

@@ -10,6 +10,8 @@ mod name;
 mod number;
 mod port;
 mod root;
+#[cfg(test)]
+mod tests;
 
 pub use error::ArchError;
 pub use root::{arch_of, read_arch};

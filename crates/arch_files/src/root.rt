@@ -1,5 +1,6 @@
-ghost use Rattle.std.specs.Prelude.{[], ◌∷◌, IfOk, MatchOption};
-ghost use Rattle.arch_files.specs.FirstForm.{Holds, SaysArch, SpellsArch};
+ghost use Rattle.std.specs.Prelude.{[], ◌∷◌, IfOk, IsErrOf, MatchOption};
+ghost use Rattle.arch_files.specs.Exact.{Answers};
+ghost use Rattle.arch_files.specs.FirstForm.{Holds, HoldsNotOne, SaysArch, SpellsArch};
 
 use crate::ArchError;
 use crate::attr::children;
@@ -11,7 +12,7 @@ use std::alloc::Global;
 
 /// The one child of an element that has this name and no text but white space.
 fn only_child<'a>(elem: &'a Elem, name: &[u8]) -> Option<&'a Elem>
-    ensures { MatchOption result ((kid : _) → Holds elem.now name.now (kid ∷ []) → ⊥) (λ kid. Holds elem.now name.now (kid.now ∷ [])) }
+    ensures { MatchOption result (HoldsNotOne elem.now name.now) (λ kid. Holds elem.now name.now (kid.now ∷ [])) }
 {
     match children(elem, name)? {
         [kid] => Some(kid),
@@ -19,14 +20,20 @@ fn only_child<'a>(elem: &'a Elem, name: &[u8]) -> Option<&'a Elem>
     }
 }
 
-/// What the root element of an architecture file says, where it is of the first form.
+/// What the root element of an architecture file says, where it is of the first form. It is
+/// `NotBuilt` exactly where it isn't.
 pub fn arch_of(alloc: Global, root: &Elem) -> Result<Arch, ArchError>
-    ensures { IfOk result (λ a. SaysArch root.now a) }
+    ensures { Answers result (λ a. SaysArch root.now a) }
 {
-    let list = only_child(root, b"architecture").ok_or(ArchError::NotBuilt)?;
-    let block = only_child(list, b"complexblocklist").ok_or(ArchError::NotBuilt)?;
+    let Some(list) = only_child(root, b"architecture") else {
+        return Err(ArchError::NotBuilt);
+    };
+    let Some(block) = only_child(list, b"complexblocklist") else {
+        return Err(ArchError::NotBuilt);
+    };
+    let block = read_block(alloc, block)?;
     let mut blocks = Items::new(alloc);
-    blocks.push(read_block(alloc, block)?)?;
+    blocks.push(block)?;
     Ok(Arch {
         models: Items::new(alloc),
         tiles: Items::new(alloc),

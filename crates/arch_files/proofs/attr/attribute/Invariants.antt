@@ -1,8 +1,7 @@
-use Rattle.std.proofs.Common.{ℕ, List, drop}
-use Rattle.vtr_base.specs.Lists.{Has}
-use Rattle.arch_files.specs.Attributes as spec
+use Rattle.std.proofs.Common.{◌≡◌, drop}
+use Rattle.arch_files.specs.Attributes.{value_of}
 use Rattle.arch_files.proofs.attr.attribute.Given as goal
 
--- an attribute of this name stands in what is left
+-- the first of this name is the first in what is left
 abbrev pub invariant-loop-attr : goal.invariant-loop-attr
-invariant-loop-attr l = (value : List ℕ) → Has l.attr-items (spec.attribute l.name value) → Has (drop l.attr-index l.attr-items) (spec.attribute l.name value)
+invariant-loop-attr l = value_of (drop l.attr-index l.attr-items) l.name ≡ value_of l.attr-items l.name

@@ -1,4 +1,4 @@
-use Rattle.std.proofs.Common.{◌≡◌, length, map, sym, ◌∙◌, refl, arith}
+use Rattle.std.proofs.Common.{◌≡◌, length, sym, ◌∙◌, refl, arith}
 use Rattle.std.proofs.lemmas.List.{length-map}
 use Rattle.arch_files.proofs.Differ.{seen_none, seen_more, seen_twice, seen_all, text_at}
 use Rattle.arch_files.proofs.name.all_differ.Goals as goal
