@@ -47,7 +47,7 @@ ports_step pb port ports is inside e =
     let next : suc port ≡ port + 1 = omega arith in
     let cut : drop port ports ≡ is ∷ drop (suc port) ports = drop-cons ports port is inside ∙ ap (λ x. x ∷ drop (suc port) ports) (sym e) in
     ap (λ ps. pins_of_ports pb port ps) cut
-      ∙ ap (λ k. map (pin_at pb port) (up_from 0 is.width) ++ pins_of_ports pb (port + 1) (drop k ports)) next
+    ∙ ap (λ k. map (pin_at pb port) (up_from 0 is.width) ++ pins_of_ports pb (port + 1) (drop k ports)) next
 
 pub ports_end : (pb port : ℕ) (ports : List Port) → length ports ≤ port → ports_from pb port ports ≡ []
 ports_end pb port ports done = ap (λ ps. pins_of_ports pb port ps) (drop_all port ports done)

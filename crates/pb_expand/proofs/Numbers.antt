@@ -32,7 +32,7 @@ pins_are_of root blocks pins are e = e ∙ pins_over_are root 0 blocks (instance
 pub pins_of_once : (root : PbType) (pins : List PinAt) → pins ≡ pins_of root → AreOnce pins
 pins_of_once root pins e i j p at_i at_j =
     once_at (pins_from root 0 (instances_of root)) (pins_once root 0 (instances_of root)) i j p
-      (subst (λ l. slice_get l i ≡ Some p) e at_i) (subst (λ l. slice_get l j ≡ Some p) e at_j)
+    (subst (λ l. slice_get l i ≡ Some p) e at_i) (subst (λ l. slice_get l j ≡ Some p) e at_j)
 
 pub few_blocks : (root : PbType) (rows : List Step) (blocks : List PbType) → addresses rows ≡ instances_of root → AreBlocks root (instances_of root) blocks →
     length blocks ≡ 1 + length rows
