@@ -1,11 +1,11 @@
 -- The edges of one more mode of an instance.
-use Rattle.std.proofs.Common.{◌≡◌, ◌+◌, ◌<◌, ◌≤◌, ◌⊎◌, ℕ, zero, suc, List, [], ◌∷◌, ◌++◌, Option, Some, None, length, slice_get, refl, sym, ap, ◌∙◌, subst, inl, inr, arith, length-append, eq-or-lt_of_le}
+use Rattle.std.proofs.Common.{◌≡◌, ◌+◌, ◌<◌, ◌≤◌, ◌⊎◌, ℕ, List, [], ◌∷◌, ◌++◌, Option, Some, None, length, slice_get, refl, sym, ap, ◌∙◌, subst, inl, inr, arith, length-append, eq-or-lt_of_le}
 use Rattle.std.proofs.lemmas.Option.{slice_get_within}
 use Rattle.vtr_base.specs.Lists.{Has}
 use Rattle.arch_types.specs.declared.block.PbType.{PbType}
 use Rattle.arch_types.specs.declared.block.Mode.{Mode}
 use Rattle.arch_types.specs.Tree.{modes_of}
-use Rattle.arch_types.specs.Address.{Address, Hop, step_to}
+use Rattle.arch_types.specs.Address.{Address, Hop}
 use Rattle.arch_types.proofs.Once.{has_left, has_right, has_either}
 use Rattle.mode_edges.specs.declared.pin.LocalPin.{LocalPin}
 use Rattle.mode_edges.specs.declared.pin.LocalEdge.{LocalEdge}
@@ -13,10 +13,10 @@ use Rattle.mode_edges.specs.declared.pin.ChildAt.{ChildAt}
 use Rattle.mode_edges.specs.Edges.{IsEdge, AreEdges}
 use Rattle.pb_expand.specs.declared.number.Edge.{Edge}
 use Rattle.pb_expand.specs.declared.number.PinAt.{PinAt}
-use Rattle.pb_expand.specs.Graph.{pin_ix, pb_ix, pin_at}
+use Rattle.pb_expand.specs.Graph.{pin_at}
 use Rattle.pb_expand.specs.Expansion.{owner_address, IsNotAfter}
 use Rattle.pb_expand.specs.Making.{AreOnce, Stands, edge_at, IsPlaced, AddsPlaced, IsMade, IsBefore, AreBefore}
-use Rattle.pb_expand.proofs.Lists.{get_front, get_either, element, has_at, at_has, snoc_last}
+use Rattle.pb_expand.proofs.Lists.{get_either, element, has_at, at_has, snoc_last}
 
 abbrev child_of : ℕ → ℕ → ChildAt
 child_of child instance = record { child = child; instance = instance }

@@ -1,10 +1,8 @@
 -- The edges of a graph from those of its modes.
-use Rattle.std.proofs.Common.{◌≡◌, ◌+◌, ◌<◌, ◌≤◌, ◌⊎◌, ◌^◌, ℕ, zero, suc, List, [], ◌∷◌, ◌++◌, Option, Some, None, length, get_or, take, slice_get, refl, sym, ap, ◌∙◌, subst, inl, inr, arith, length-append, eq-or-lt_of_le, append_assoc}
+use Rattle.std.proofs.Common.{◌≡◌, ◌+◌, ◌<◌, ◌≤◌, ◌⊎◌, ◌^◌, ℕ, zero, suc, List, [], ◌∷◌, ◌++◌, Some, length, get_or, take, slice_get, refl, sym, ap, ◌∙◌, subst, inl, inr, arith, length-append, eq-or-lt_of_le, append_assoc}
 use Rattle.std.proofs.lemmas.List.{append-nil, take_more, length-take}
-use Rattle.std.proofs.lemmas.Option.{slice_get_within, slice_get-get_or, option_and_then_some}
-use Rattle.vtr_base.specs.Lists.{Has}
+use Rattle.std.proofs.lemmas.Option.{slice_get_within, option_and_then_some}
 use Rattle.arch_types.specs.declared.block.PbType.{PbType}
-use Rattle.arch_types.specs.declared.block.Mode.{Mode}
 use Rattle.arch_types.specs.Tree.{modes_of}
 use Rattle.arch_types.specs.Address.{Address, at, step_to}
 use Rattle.mode_edges.specs.declared.pin.LocalEdge.{LocalEdge}
@@ -13,11 +11,11 @@ use Rattle.mode_edges.specs.declared.pin.ChildAt.{ChildAt}
 use Rattle.pb_expand.specs.declared.number.Edge.{Edge}
 use Rattle.pb_expand.specs.declared.number.PinAt.{PinAt}
 use Rattle.pb_expand.specs.declared.number.Step.{Step}
-use Rattle.pb_expand.specs.Graph.{Graph, pin_at, block_at, step_from, LeadsTo}
+use Rattle.pb_expand.specs.Graph.{Graph, block_at, step_from}
 use Rattle.pb_expand.specs.Rows.{addresses, IsTree}
 use Rattle.pb_expand.specs.Expansion.{owner_address, StandsAt, IsEdgeOf, HasEdges}
 use Rattle.pb_expand.specs.Making.{AreBlocks, AreShort, Stands, IsPlaced, AddsPlaced, IsMade, IsBefore, AreBefore}
-use Rattle.pb_expand.proofs.Lists.{get_front, get_after, get_either, element}
+use Rattle.pb_expand.proofs.Lists.{get_either}
 use Rattle.pb_expand.proofs.RowLemmas.{row_says}
 
 pub adds_starts : (instances : List Address) (pins : List PinAt) (owner mode : ℕ) (local : List LocalEdge) (old : List Edge) →

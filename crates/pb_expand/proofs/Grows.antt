@@ -1,14 +1,12 @@
 -- Rows that grow by the instances below one: what was pushed, and what is still to come.
-use Rattle.std.proofs.Common.{◌≡◌, ◌+◌, ◌-◌, ◌<◌, ◌≤◌, ℕ, zero, suc, List, [], ◌∷◌, ◌++◌, Option, Some, None, length, get_or, drop, slice_get, refl, sym, ap, ◌∙◌, subst, inl, inr, arith, length-append, append_assoc, drop-cons, add-one, add-zero}
+use Rattle.std.proofs.Common.{◌≡◌, ◌+◌, ◌-◌, ◌<◌, ◌≤◌, ℕ, zero, suc, List, [], ◌∷◌, ◌++◌, Some, length, get_or, drop, slice_get, refl, sym, ap, ◌∙◌, subst, inl, inr, arith, length-append, append_assoc, drop-cons}
 use Rattle.std.proofs.lemmas.List.{append-nil, drop_all}
-use Rattle.std.proofs.lemmas.Option.{slice_get_within, slice_get-get_or, get_or_from_slice_get}
+use Rattle.std.proofs.lemmas.Option.{slice_get-get_or, get_or_from_slice_get}
 use Rattle.arch_types.specs.declared.block.PbType.{PbType}
 use Rattle.arch_types.specs.declared.block.Mode.{Mode}
-use Rattle.arch_types.specs.declared.block.Kind.{Kind}
-use Rattle.arch_types.specs.declared.block.Kind.TheVariants.{Modes}
 use Rattle.arch_types.specs.Tree.{kids_of}
-use Rattle.arch_types.specs.Address.{Address, step_to, copies, below, in_mode}
-use Rattle.arch_types.proofs.TreeRows.{modes_from, kids_from, in_mode_is, below_modes_are}
+use Rattle.arch_types.specs.Address.{Address, step_to, copies, below}
+use Rattle.arch_types.proofs.TreeRows.{modes_from, kids_from, in_mode_is}
 use Rattle.pb_expand.specs.declared.number.Step.{Step}
 use Rattle.pb_expand.specs.Graph.{step_from}
 use Rattle.pb_expand.specs.Rows.{address_by, addresses_after, addresses, IsTree}

@@ -1,8 +1,7 @@
 -- Instances and pins that are numbered in a list stand in it once.
-use Rattle.std.proofs.Common.{◌≡◌, ◌+◌, ◌<◌, ◌≤◌, ℕ, List, [], ◌∷◌, Some, length, slice_get, refl, sym, ap, ◌∙◌, subst, arith}
+use Rattle.std.proofs.Common.{◌≡◌, ◌+◌, ◌≤◌, List, Some, length, slice_get, sym, ap, ◌∙◌, subst, arith}
 use Rattle.arch_types.specs.declared.block.PbType.{PbType}
-use Rattle.arch_types.specs.Address.{Address, step_to, instances_of}
-use Rattle.arch_types.specs.Numbering.{IsNumbering}
+use Rattle.arch_types.specs.Address.{step_to, instances_of}
 use Rattle.arch_types.proofs.Numbered.{is_numbering}
 use Rattle.arch_types.proofs.Once.{once_at}
 use Rattle.pb_expand.specs.declared.number.Step.{Step}

@@ -1,5 +1,5 @@
 -- Each pin of an instance has one number.
-use Rattle.std.proofs.Common.{◌≡◌, ◌↔◌, ◌+◌, ◌-◌, ◌<◌, ◌≤◌, ◌⊎◌, ℕ, zero, suc, List, [], ◌∷◌, ◌++◌, Option, Some, None, map, length, slice_get, refl, sym, ap, ◌∙◌, subst, inl, inr, arith, eq-or-lt_of_le}
+use Rattle.std.proofs.Common.{◌≡◌, ◌+◌, ◌<◌, ◌≤◌, ℕ, zero, suc, List, [], ◌∷◌, ◌++◌, Some, map, length, slice_get, refl, sym, ap, ◌∙◌, subst, inl, inr, arith, eq-or-lt_of_le}
 use Rattle.std.specs.Option.{option_map_or}
 use Rattle.vtr_base.specs.Lists.{Has, up_from}
 use Rattle.arch_types.specs.declared.block.PbType.{PbType}
@@ -10,7 +10,6 @@ use Rattle.pb_expand.specs.declared.number.PinAt.{PinAt}
 use Rattle.pb_expand.specs.Graph.{Graph, pin_at, ports_at, pins_of_ports, pins_from}
 use Rattle.pb_expand.specs.Expansion.{IsPin, HasPins}
 use Rattle.pb_expand.specs.Making.{pins_over}
-use Rattle.pb_expand.proofs.Lists.{has_at}
 
 -- a bit of a port from number `from` on, k of them
 pub record IsBit (pb port from k : ℕ) (p : PinAt) : Type 0 where

@@ -1,5 +1,4 @@
-use Rattle.std.proofs.Common.{◌≡◌, get_or, slice_get, arith}
-use Rattle.pb_expand.specs.Graph.{edge_ix}
+use Rattle.std.proofs.Common.{get_or}
 use Rattle.pb_expand.proofs.EndLemmas.{ends_push, no_edge, read_itself}
 use Rattle.pb_expand.proofs.ends.ends_of.Goals as goal
 

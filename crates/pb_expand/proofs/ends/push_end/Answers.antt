@@ -1,6 +1,5 @@
-use Rattle.std.proofs.Common.{◌≡◌, ◌++◌, ◌∷◌, [], ap, sym, ◌∙◌, refl, List, Some, None, cond, is_some}
+use Rattle.std.proofs.Common.{◌≡◌, ◌++◌, ◌∷◌, [], ap, sym, ◌∙◌, Some, None, cond, is_some}
 use Rattle.std.specs.HashMap.{get}
-use Rattle.pb_expand.specs.declared.number.End.{End}
 use Rattle.pb_expand.specs.Ends.{same_end}
 use Rattle.pb_expand.proofs.EndLemmas.{list_of, listed_push}
 use Rattle.pb_expand.proofs.ends.push_end.Goals as goal

@@ -1,11 +1,9 @@
-use Rattle.std.proofs.Common.{◌≡◌, ◌+◌, ◌<◌, ◌∷◌, ◌++◌, [], map, length, get_or, take, sym, ap, ◌∙◌, subst, arith}
+use Rattle.std.proofs.Common.{◌<◌, ◌∷◌, ◌++◌, [], map, length, get_or, sym, ap, ◌∙◌, subst, arith}
 use Rattle.std.proofs.lemmas.List.{length-map}
 use Rattle.std.proofs.lemmas.Option.{slice_get-get_or}
-use Rattle.arch_types.specs.Address.{instances_of}
 use Rattle.arch_types.specs.Numbering.{IsNumbering}
 use Rattle.arch_types.proofs.Numbered.{is_numbering}
 use Rattle.pb_expand.specs.Graph.{step_from}
-use Rattle.pb_expand.specs.Rows.{addresses}
 use Rattle.pb_expand.specs.Making.{AreBlocks}
 use Rattle.pb_expand.proofs.Lists.{now_at}
 use Rattle.pb_expand.proofs.BlockList.{blocks_start, has_parent, child_is_there, blocks_push}

@@ -1,4 +1,4 @@
-use Rattle.std.proofs.Common.{◌≡◌, ◌+◌, ◌++◌, [], map, drop, ap, ◌∙◌}
+use Rattle.std.proofs.Common.{◌+◌, ◌++◌, [], map, drop, ap, ◌∙◌}
 use Rattle.pb_expand.specs.Graph.{pins_of_ports}
 use Rattle.pb_expand.specs.Making.{pins_over}
 use Rattle.pb_expand.proofs.Lists.{now_at}

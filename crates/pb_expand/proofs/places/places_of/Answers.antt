@@ -1,7 +1,6 @@
-use Rattle.std.proofs.Common.{◌≡◌, ◌+◌, ◌≤◌, ◌++◌, ◌∷◌, [], Some, map, length, get_or, slice_get, sym, ap, ◌∙◌, subst, arith}
+use Rattle.std.proofs.Common.{◌≡◌, ◌≤◌, ◌++◌, [], Some, map, length, get_or, slice_get, ap, ◌∙◌, subst, arith}
 use Rattle.std.proofs.lemmas.List.{length-map}
 use Rattle.arch_types.specs.Address.{instances_of, below}
-use Rattle.pb_expand.specs.Graph.{pins_of}
 use Rattle.pb_expand.specs.Making.{pins_over}
 use Rattle.pb_expand.specs.Rows.{addresses}
 use Rattle.pb_expand.proofs.RowLemmas.{one_step}

@@ -1,4 +1,4 @@
-use Rattle.std.proofs.Common.{◌≡◌, ◌+◌, ◌-◌, ◌<◌, ◌≤◌, ◌∷◌, [], map, length, ap, ◌∙◌, arith, length-append}
+use Rattle.std.proofs.Common.{◌≡◌, ◌+◌, ◌-◌, ◌<◌, ◌∷◌, [], map, length, ap, ◌∙◌, arith, length-append}
 use Rattle.vtr_base.specs.Lists.{up_from}
 use Rattle.pb_expand.specs.Graph.{pin_at}
 use Rattle.pb_expand.proofs.Fills.{fills_more, bits_step}

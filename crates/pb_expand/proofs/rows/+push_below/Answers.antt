@@ -3,7 +3,7 @@ use Rattle.arch_types.specs.Address.{below, step_to}
 use Rattle.arch_types.specs.Tree.{kids_of}
 use Rattle.arch_types.proofs.TreeRows.{modes_from, kids_from, below_modes_are}
 use Rattle.pb_expand.specs.Rows.{addresses}
-use Rattle.pb_expand.proofs.Grows.{Grew, grew_starts, grew_by, grew_below, mode_begin, kid_pushed, kids_at}
+use Rattle.pb_expand.proofs.Grows.{grew_starts, grew_by, grew_below, mode_begin, kid_pushed, kids_at}
 use Rattle.pb_expand.proofs.rows.+push_below.Goals as goal
 
 pub loop-mode-init : goal.loop-mode-init
