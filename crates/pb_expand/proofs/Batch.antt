@@ -1,11 +1,11 @@
 -- The edges of one more mode of an instance.
-use Rattle.std.proofs.Common.{◌≡◌, ◌+◌, ◌<◌, ◌≤◌, ◌⊎◌, ℕ, zero, suc, List, [], ◌∷◌, ◌++◌, Option, Some, None, length, slice_get, refl, sym, ap, ◌∙◌, subst, inl, inr, arith, length-append, eq-or-lt_of_le}
+use Rattle.std.proofs.Common.{◌≡◌, ◌+◌, ◌<◌, ◌≤◌, ◌⊎◌, ℕ, List, [], ◌∷◌, ◌++◌, Option, Some, None, length, slice_get, refl, sym, ap, ◌∙◌, subst, inl, inr, arith, length-append, eq-or-lt_of_le}
 use Rattle.std.proofs.lemmas.Option.{slice_get_within}
 use Rattle.vtr_base.specs.Lists.{Has}
 use Rattle.arch_types.specs.declared.block.PbType.{PbType}
 use Rattle.arch_types.specs.declared.block.Mode.{Mode}
 use Rattle.arch_types.specs.Tree.{modes_of}
-use Rattle.arch_types.specs.Address.{Address, Hop, step_to}
+use Rattle.arch_types.specs.Address.{Address, Hop}
 use Rattle.arch_types.proofs.Once.{has_left, has_right, has_either}
 use Rattle.mode_edges.specs.declared.pin.LocalPin.{LocalPin}
 use Rattle.mode_edges.specs.declared.pin.LocalEdge.{LocalEdge}
@@ -13,10 +13,10 @@ use Rattle.mode_edges.specs.declared.pin.ChildAt.{ChildAt}
 use Rattle.mode_edges.specs.Edges.{IsEdge, AreEdges}
 use Rattle.pb_expand.specs.declared.number.Edge.{Edge}
 use Rattle.pb_expand.specs.declared.number.PinAt.{PinAt}
-use Rattle.pb_expand.specs.Graph.{pin_ix, pb_ix, pin_at}
+use Rattle.pb_expand.specs.Graph.{pin_at}
 use Rattle.pb_expand.specs.Expansion.{owner_address, IsNotAfter}
 use Rattle.pb_expand.specs.Making.{AreOnce, Stands, edge_at, IsPlaced, AddsPlaced, IsMade, IsBefore, AreBefore}
-use Rattle.pb_expand.proofs.Lists.{get_front, get_either, element, has_at, at_has, snoc_last}
+use Rattle.pb_expand.proofs.Lists.{get_either, element, has_at, at_has, snoc_last}
 
 abbrev child_of : ℕ → ℕ → ChildAt
 child_of child instance = record { child = child; instance = instance }
@@ -87,9 +87,9 @@ is_added instances pins owner mode local old new adds k e at_k =
     record { l = l.0; at = l.1; placed = adds.placed k l.0 e l.1 at_k }
 
 module _ (blocks : List PbType) (instances : List Address) (pins : List PinAt) (n m : ℕ) (block : PbType) (address : Address) (mode : Mode) (local : List LocalEdge)
-  (old new : List Edge) (once_i : AreOnce instances) (once_p : AreOnce pins) (is_block : slice_get blocks n ≡ Some block) (is_address : slice_get instances n ≡ Some address)
-  (is_mode : slice_get (modes_of block.kind) m ≡ Some mode) (are : AreEdges block mode local) (adds : AddsPlaced instances pins n m local old new)
-  (before : AreBefore blocks instances pins n m old) where
+    (old new : List Edge) (once_i : AreOnce instances) (once_p : AreOnce pins) (is_block : slice_get blocks n ≡ Some block) (is_address : slice_get instances n ≡ Some address)
+    (is_mode : slice_get (modes_of block.kind) m ≡ Some mode) (are : AreEdges block mode local) (adds : AddsPlaced instances pins n m local old new)
+    (before : AreBefore blocks instances pins n m old) where
   -- an edge that was added is an edge of the graph
   made : (k : ℕ) (e : Edge) → IsAdded instances pins n m local k e → IsMade blocks instances pins e
   made k e added =
@@ -130,15 +130,15 @@ module _ (blocks : List PbType) (instances : List Address) (pins : List PinAt) (
 
   batch_each : (e : Edge) → Has new e → IsMade blocks instances pins e × IsBefore n (m + 1) e
   batch_each e has = elim (has_either old adds.more e (subst (λ es. Has es e) adds.is has)) [
-      | inl left ↦
-          let was = before.each e left in
-          (was.0, wider was.1)
-      | inr right ↦
-          let place = at_has adds.more e right in
-          let added = is_added instances pins n m local old new adds place.0 e place.1 in
-          let same = mode_is place.0 e added in
-          (made place.0 e added, inr (owner_is place.0 e added, omega (arith, same)))
-    ]
+    | inl left ↦
+        let was = before.each e left in
+        (was.0, wider was.1)
+    | inr right ↦
+        let place = at_has adds.more e right in
+        let added = is_added instances pins n m local old new adds place.0 e place.1 in
+        let same = mode_is place.0 e added in
+        (made place.0 e added, inr (owner_is place.0 e added, omega (arith, same)))
+  ]
     where
       wider : IsBefore n m e → IsBefore n (m + 1) e
       wider (inl low) = inl low
@@ -151,7 +151,7 @@ module _ (blocks : List PbType) (instances : List Address) (pins : List PinAt) (
       let there : is.address ≡ address = one_at instances e.owner.0 n is.address address owner is.is_owner is_address in
       let modes : is.mode ≡ mode = one_mode is.block block e.mode m is.mode mode here mode_same is.is_mode is_mode in
       let edge : IsEdge block mode e.inter is.src is.dst =
-        subst (λ x. IsEdge block x e.inter is.src is.dst) modes (subst (λ b. IsEdge b is.mode e.inter is.src is.dst) here is.edge) in
+      subst (λ x. IsEdge block x e.inter is.src is.dst) modes (subst (λ b. IsEdge b is.mode e.inter is.src is.dst) here is.edge) in
       let has = are.all e.inter is.src is.dst edge in
       let place = at_has local (record { src = is.src; dst = is.dst; inter = e.inter }) has in
       let inside : place.0 < length adds.more = omega (arith, slice_get_within local place.0 (record { src = is.src; dst = is.dst; inter = e.inter }) place.1, adds.all) in
@@ -170,6 +170,7 @@ module _ (blocks : List PbType) (instances : List Address) (pins : List PinAt) (
     where
       below : e.mode ≤ m
       below = omega (arith, low.1)
+
       by : (e.mode ≡ m) ⊎ (e.mode < m) → Has (old ++ adds.more) e
       by (inl same) = has_right old adds.more e (batch_has e is low.0 same)
       by (inr less) = has_left old adds.more e (before.all e is (inr (low.0, less)))
@@ -186,9 +187,9 @@ module _ (blocks : List PbType) (instances : List Address) (pins : List PinAt) (
       let srcs : y.placed.src ≡ x.placed.src = cc in
       let dsts : y.placed.dst ≡ x.placed.dst = cc in
       let from = one_local instances pins x.placed.src address m x.l.src y.l.src (x.placed.at_src address is_address)
-        (subst (λ k. Stands instances pins k address m y.l.src) srcs (y.placed.at_src address is_address)) in
+      (subst (λ k. Stands instances pins k address m y.l.src) srcs (y.placed.at_src address is_address)) in
       let into = one_local instances pins x.placed.dst address m x.l.dst y.l.dst (x.placed.at_dst address is_address)
-        (subst (λ k. Stands instances pins k address m y.l.dst) dsts (y.placed.at_dst address is_address)) in
+      (subst (λ k. Stands instances pins k address m y.l.dst) dsts (y.placed.at_dst address is_address)) in
       are.once i j x.l y.l x.at y.at from into
 
   batch_once : (i j : ℕ) (e f : Edge) → slice_get new i ≡ Some e → slice_get new j ≡ Some f → e.owner ≡ f.owner → e.mode ≡ f.mode → e.src ≡ f.src → e.dst ≡ f.dst → i ≡ j
@@ -197,13 +198,14 @@ module _ (blocks : List PbType) (instances : List Address) (pins : List PinAt) (
     where
       numbers : e.owner.0 ≡ f.owner.0
       numbers = ap (λ x. x.0) owners
+
       by : (slice_get old i ≡ Some e) ⊎ ((k : ℕ) × (i ≡ length old + k) × (slice_get adds.more k ≡ Some e)) →
           (slice_get old j ≡ Some f) ⊎ ((k : ℕ) × (j ≡ length old + k) × (slice_get adds.more k ≡ Some f)) → i ≡ j
       by (inl x) (inl y) = before.once i j e f x y owners modes sources ends
       by (inl x) (inr y) =
-        absurd (apart y.0 e f (before.each e (has_at old i e x)).1 (is_added instances pins n m local old new adds y.0 f y.2) numbers modes)
+          absurd (apart y.0 e f (before.each e (has_at old i e x)).1 (is_added instances pins n m local old new adds y.0 f y.2) numbers modes)
       by (inr x) (inl y) =
-        absurd (apart x.0 f e (before.each f (has_at old j f y)).1 (is_added instances pins n m local old new adds x.0 e x.2) (sym numbers) (sym modes))
+          absurd (apart x.0 f e (before.each f (has_at old j f y)).1 (is_added instances pins n m local old new adds x.0 e x.2) (sym numbers) (sym modes))
       by (inr x) (inr y) = let same = batch_once_more x.0 y.0 e f x.2 y.2 sources ends in omega (arith, x.1, y.1, same)
 
   batch_ordered : (i j : ℕ) (e f : Edge) → i < j → slice_get new i ≡ Some e → slice_get new j ≡ Some f → IsNotAfter e f
@@ -213,17 +215,18 @@ module _ (blocks : List PbType) (instances : List Address) (pins : List PinAt) (
       earlier : (k : ℕ) → IsBefore n m e → IsAdded instances pins n m local k f → IsNotAfter e f
       earlier k (inl less) y = let is = owner_is k f y in inl (omega arith)
       earlier k (inr less) y = let is = owner_is k f y in let at = mode_is k f y in inr (less.0 ∙ sym is, inl (omega (arith, less.1)))
+
       by : (slice_get old i ≡ Some e) ⊎ ((k : ℕ) × (i ≡ length old + k) × (slice_get adds.more k ≡ Some e)) →
           (slice_get old j ≡ Some f) ⊎ ((k : ℕ) × (j ≡ length old + k) × (slice_get adds.more k ≡ Some f)) → IsNotAfter e f
       by (inl x) (inl y) = before.ordered i j e f low x y
       by (inl x) (inr y) = earlier y.0 (before.each e (has_at old i e x)).1 (is_added instances pins n m local old new adds y.0 f y.2)
       by (inr x) (inl y) = let inside = slice_get_within old j f y in let place = x.1 in absurd (omega arith)
       by (inr x) (inr y) =
-        let p = is_added instances pins n m local old new adds x.0 e x.2 in
-        let q = is_added instances pins n m local old new adds y.0 f y.2 in
-        let less : x.0 < y.0 = omega (arith, x.1, y.1) in
-        let inters = are.ordered x.0 y.0 p.l q.l less p.at q.at in
-        inr (owner_is x.0 e p ∙ sym (owner_is y.0 f q), inr (mode_is x.0 e p ∙ sym (mode_is y.0 f q), omega (arith, inters, inter_is x.0 e p, inter_is y.0 f q)))
+          let p = is_added instances pins n m local old new adds x.0 e x.2 in
+          let q = is_added instances pins n m local old new adds y.0 f y.2 in
+          let less : x.0 < y.0 = omega (arith, x.1, y.1) in
+          let inters = are.ordered x.0 y.0 p.l q.l less p.at q.at in
+          inr (owner_is x.0 e p ∙ sym (owner_is y.0 f q), inr (mode_is x.0 e p ∙ sym (mode_is y.0 f q), omega (arith, inters, inter_is x.0 e p, inter_is y.0 f q)))
 
   pub batch : AreBefore blocks instances pins n (m + 1) new
   batch = record { each = batch_each; all = batch_all; once = batch_once; ordered = batch_ordered }

@@ -1,10 +1,8 @@
 -- The edges of a graph from those of its modes.
-use Rattle.std.proofs.Common.{◌≡◌, ◌+◌, ◌<◌, ◌≤◌, ◌⊎◌, ◌^◌, ℕ, zero, suc, List, [], ◌∷◌, ◌++◌, Option, Some, None, length, get_or, take, slice_get, refl, sym, ap, ◌∙◌, subst, inl, inr, arith, length-append, eq-or-lt_of_le, append_assoc}
+use Rattle.std.proofs.Common.{◌≡◌, ◌+◌, ◌<◌, ◌≤◌, ◌⊎◌, ◌^◌, ℕ, zero, suc, List, [], ◌∷◌, ◌++◌, Some, length, get_or, take, slice_get, refl, sym, ap, ◌∙◌, subst, inl, inr, arith, length-append, eq-or-lt_of_le, append_assoc}
 use Rattle.std.proofs.lemmas.List.{append-nil, take_more, length-take}
-use Rattle.std.proofs.lemmas.Option.{slice_get_within, slice_get-get_or, option_and_then_some}
-use Rattle.vtr_base.specs.Lists.{Has}
+use Rattle.std.proofs.lemmas.Option.{slice_get_within, option_and_then_some}
 use Rattle.arch_types.specs.declared.block.PbType.{PbType}
-use Rattle.arch_types.specs.declared.block.Mode.{Mode}
 use Rattle.arch_types.specs.Tree.{modes_of}
 use Rattle.arch_types.specs.Address.{Address, at, step_to}
 use Rattle.mode_edges.specs.declared.pin.LocalEdge.{LocalEdge}
@@ -13,11 +11,11 @@ use Rattle.mode_edges.specs.declared.pin.ChildAt.{ChildAt}
 use Rattle.pb_expand.specs.declared.number.Edge.{Edge}
 use Rattle.pb_expand.specs.declared.number.PinAt.{PinAt}
 use Rattle.pb_expand.specs.declared.number.Step.{Step}
-use Rattle.pb_expand.specs.Graph.{Graph, pin_at, block_at, step_from, LeadsTo}
+use Rattle.pb_expand.specs.Graph.{Graph, block_at, step_from}
 use Rattle.pb_expand.specs.Rows.{addresses, IsTree}
 use Rattle.pb_expand.specs.Expansion.{owner_address, StandsAt, IsEdgeOf, HasEdges}
 use Rattle.pb_expand.specs.Making.{AreBlocks, AreShort, Stands, IsPlaced, AddsPlaced, IsMade, IsBefore, AreBefore}
-use Rattle.pb_expand.proofs.Lists.{get_front, get_after, get_either, element}
+use Rattle.pb_expand.proofs.Lists.{get_either}
 use Rattle.pb_expand.proofs.RowLemmas.{row_says}
 
 pub adds_starts : (instances : List Address) (pins : List PinAt) (owner mode : ℕ) (local : List LocalEdge) (old : List Edge) →
@@ -36,16 +34,17 @@ adds_push instances pins owner mode k local old now new l e adds inside at place
       is = is ∙ ap (λ es. es ++ e ∷ []) adds.is ∙ append_assoc old adds.more (e ∷ []);
       all = length-append adds.more (e ∷ []) ∙ omega (arith, adds.all, ap length longer, length-append (take k local) (l ∷ []));
       placed = λ j x f at_x at_f.
-        by j x f (get_either (take k local) (l ∷ []) j x (subst (λ ls. slice_get ls j ≡ Some x) longer at_x)) (get_either adds.more (e ∷ []) j f at_f);
+          by j x f (get_either (take k local) (l ∷ []) j x (subst (λ ls. slice_get ls j ≡ Some x) longer at_x)) (get_either adds.more (e ∷ []) j f at_f);
     }
   where
     by_last : (x : LocalEdge) (f : Edge) (i j : ℕ) → slice_get (l ∷ []) i ≡ Some x → slice_get (e ∷ []) j ≡ Some f → IsPlaced instances pins owner mode x f
     by_last x f zero zero at_x at_f =
-      let same_l : l ≡ x = cc in
-      let same_e : e ≡ f = cc in
-      subst (λ y. IsPlaced instances pins owner mode y f) same_l (subst (λ g. IsPlaced instances pins owner mode l g) same_e placed)
+        let same_l : l ≡ x = cc in
+        let same_e : e ≡ f = cc in
+        subst (λ y. IsPlaced instances pins owner mode y f) same_l (subst (λ g. IsPlaced instances pins owner mode l g) same_e placed)
     by_last x f (suc i) j at_x at_f = absurd (cc)
     by_last x f zero (suc j) at_x at_f = absurd (cc)
+
     by : (j : ℕ) (x : LocalEdge) (f : Edge) → (slice_get (take k local) j ≡ Some x) ⊎ ((i : ℕ) × (j ≡ length (take k local) + i) × (slice_get (l ∷ []) i ≡ Some x)) →
         (slice_get adds.more j ≡ Some f) ⊎ ((i : ℕ) × (j ≡ length adds.more + i) × (slice_get (e ∷ []) i ≡ Some f)) → IsPlaced instances pins owner mode x f
     by j x f (inl p) (inl q) = adds.placed j x f p q
@@ -78,13 +77,16 @@ mode_ends blocks instances pins n m block edges at done before = record {
     wider : (e : Edge) → IsBefore n m e → IsBefore (n + 1) 0 e
     wider e (inl low) = inl (omega arith)
     wider e (inr low) = let is = low.0 in inl (omega arith)
+
     last : (e : Edge) → IsMade blocks instances pins e → e.owner.0 ≡ n → e.mode < m
     last e is owner =
-      let found : Some is.block ≡ Some block = sym is.is_block ∙ ap (λ k. slice_get blocks k) owner ∙ at in
-      let same : is.block ≡ block = cc in
-      omega (arith, slice_get_within (modes_of is.block.kind) e.mode is.mode is.is_mode, ap (λ (b : PbType). length (modes_of b.kind)) same)
+        let found : Some is.block ≡ Some block = sym is.is_block ∙ ap (λ k. slice_get blocks k) owner ∙ at in
+        let same : is.block ≡ block = cc in
+        omega (arith, slice_get_within (modes_of is.block.kind) e.mode is.mode is.is_mode, ap (λ (b : PbType). length (modes_of b.kind)) same)
+
     at_most : (e : Edge) → e.owner.0 < n + 1 → e.owner.0 ≤ n
     at_most e low = omega arith
+
     within : (e : Edge) → IsMade blocks instances pins e → IsBefore (n + 1) 0 e → IsBefore n m e
     within e is (inl low) = elim (eq-or-lt_of_le (at_most e low)) [ inl same ↦ inr (same, last e is same) | inr less ↦ inl less ]
     within e is (inr low) = let bad = low.1 in absurd (omega arith)
@@ -100,52 +102,55 @@ has_edges g blocks are before = record {
   where
     there : (n : ℕ) (a : Address) (m : ℕ) (p : LocalPin) → Stands g.instances g.pins n a m p → StandsAt g n a m p
     there n a m p s = record { pb = s.pb; is_pin = s.is_pin; is_instance = s.is_instance }
+
     back : (n : ℕ) (a : Address) (m : ℕ) (p : LocalPin) → StandsAt g n a m p → Stands g.instances g.pins n a m p
     back n a m p s = record { pb = s.pb; is_pin = s.is_pin; is_instance = s.is_instance }
+
     is_edge : (e : Edge) → IsMade blocks g.instances g.pins e → IsEdgeOf g e
     is_edge e is =
-      let block = are.each e.owner.0 is.address is.is_owner in
-      let same : block.0 ≡ is.block = cc (block.2, is.is_block) in
-      record {
-        address = is.address;
-        is_owner = is.is_owner;
-        block = is.block;
-        is_block = block.1 ∙ ap Some same;
-        mode = is.mode;
-        is_mode = is.is_mode;
-        src = is.src;
-        dst = is.dst;
-        edge = is.edge;
-        is_src = there e.src.0 is.address e.mode is.src is.is_src;
-        is_dst = there e.dst.0 is.address e.mode is.dst is.is_dst;
-      }
+        let block = are.each e.owner.0 is.address is.is_owner in
+        let same : block.0 ≡ is.block = cc (block.2, is.is_block) in
+        record {
+          address = is.address;
+          is_owner = is.is_owner;
+          block = is.block;
+          is_block = block.1 ∙ ap Some same;
+          mode = is.mode;
+          is_mode = is.is_mode;
+          src = is.src;
+          dst = is.dst;
+          edge = is.edge;
+          is_src = there e.src.0 is.address e.mode is.src is.is_src;
+          is_dst = there e.dst.0 is.address e.mode is.dst is.is_dst;
+        }
+
     is_made : (e : Edge) → IsEdgeOf g e → IsMade blocks g.instances g.pins e
     is_made e is =
-      let block = are.each e.owner.0 is.address is.is_owner in
-      let same : block.0 ≡ is.block = cc (block.1, is.is_block) in
-      record {
-        address = is.address;
-        is_owner = is.is_owner;
-        block = is.block;
-        is_block = block.2 ∙ ap Some same;
-        mode = is.mode;
-        is_mode = is.is_mode;
-        src = is.src;
-        dst = is.dst;
-        edge = is.edge;
-        is_src = back e.src.0 is.address e.mode is.src is.is_src;
-        is_dst = back e.dst.0 is.address e.mode is.dst is.is_dst;
-      }
+        let block = are.each e.owner.0 is.address is.is_owner in
+        let same : block.0 ≡ is.block = cc (block.1, is.is_block) in
+        record {
+          address = is.address;
+          is_owner = is.is_owner;
+          block = is.block;
+          is_block = block.2 ∙ ap Some same;
+          mode = is.mode;
+          is_mode = is.is_mode;
+          src = is.src;
+          dst = is.dst;
+          edge = is.edge;
+          is_src = back e.src.0 is.address e.mode is.src is.is_src;
+          is_dst = back e.dst.0 is.address e.mode is.dst is.is_dst;
+        }
 
 -- the pb_types of a graph's instances have few modes each
 pub short_at : (g : Graph) (blocks : List PbType) → AreBlocks g.root g.instances blocks → AreShort blocks →
     (n : ℕ) (block : PbType) → block_at g n ≡ Some block → length (modes_of block.kind) < 2 ^ 32
 short_at g blocks are short n block e =
     option_and_then_some (λ a. at g.root a) (slice_get g.instances n) block e
-      (λ a at_n found.
-        let is = are.each n a at_n in
-        let same : is.0 ≡ block = cc (is.1, found) in
-        short.each n block (is.2 ∙ ap Some same))
+    (λ a at_n found.
+    let is = are.each n a at_n in
+    let same : is.0 ≡ block = cc (is.1, found) in
+    short.each n block (is.2 ∙ ap Some same))
 
 -- a step's row says where its instance stands
 pub child_stands : (rows : List Step) (owner mode k : ℕ) (child : ChildAt) → IsTree rows → slice_get rows k ≡ Some (step_from owner mode child.child child.instance) →

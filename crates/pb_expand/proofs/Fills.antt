@@ -1,5 +1,5 @@
 -- A list that is filled: what was put, and what is still to come.
-use Rattle.std.proofs.Common.{◌≡◌, ◌+◌, ◌-◌, ◌<◌, ◌≤◌, ℕ, zero, suc, List, [], ◌∷◌, ◌++◌, map, length, get_or, drop, slice_get, Some, refl, sym, ap, ◌∙◌, subst, arith, length-append, append_assoc, drop-cons}
+use Rattle.std.proofs.Common.{◌≡◌, ◌+◌, ◌-◌, ◌<◌, ◌≤◌, ℕ, suc, List, [], ◌∷◌, ◌++◌, map, length, get_or, drop, slice_get, Some, sym, ap, ◌∙◌, arith, append_assoc, drop-cons}
 use Rattle.std.proofs.lemmas.List.{append-nil, drop_all}
 use Rattle.std.proofs.lemmas.Option.{slice_get_within, get_or_from_slice_get}
 use Rattle.vtr_base.specs.Lists.{up_from}
@@ -47,7 +47,7 @@ ports_step pb port ports is inside e =
     let next : suc port ≡ port + 1 = omega arith in
     let cut : drop port ports ≡ is ∷ drop (suc port) ports = drop-cons ports port is inside ∙ ap (λ x. x ∷ drop (suc port) ports) (sym e) in
     ap (λ ps. pins_of_ports pb port ps) cut
-      ∙ ap (λ k. map (pin_at pb port) (up_from 0 is.width) ++ pins_of_ports pb (port + 1) (drop k ports)) next
+    ∙ ap (λ k. map (pin_at pb port) (up_from 0 is.width) ++ pins_of_ports pb (port + 1) (drop k ports)) next
 
 pub ports_end : (pb port : ℕ) (ports : List Port) → length ports ≤ port → ports_from pb port ports ≡ []
 ports_end pb port ports done = ap (λ ps. pins_of_ports pb port ps) (drop_all port ports done)

@@ -1,14 +1,12 @@
 -- Rows that grow by the instances below one: what was pushed, and what is still to come.
-use Rattle.std.proofs.Common.{◌≡◌, ◌+◌, ◌-◌, ◌<◌, ◌≤◌, ℕ, zero, suc, List, [], ◌∷◌, ◌++◌, Option, Some, None, length, get_or, drop, slice_get, refl, sym, ap, ◌∙◌, subst, inl, inr, arith, length-append, append_assoc, drop-cons, add-one, add-zero}
+use Rattle.std.proofs.Common.{◌≡◌, ◌+◌, ◌-◌, ◌<◌, ◌≤◌, ℕ, zero, suc, List, [], ◌∷◌, ◌++◌, Some, length, get_or, drop, slice_get, refl, sym, ap, ◌∙◌, subst, inl, inr, arith, length-append, append_assoc, drop-cons}
 use Rattle.std.proofs.lemmas.List.{append-nil, drop_all}
-use Rattle.std.proofs.lemmas.Option.{slice_get_within, slice_get-get_or, get_or_from_slice_get}
+use Rattle.std.proofs.lemmas.Option.{slice_get-get_or, get_or_from_slice_get}
 use Rattle.arch_types.specs.declared.block.PbType.{PbType}
 use Rattle.arch_types.specs.declared.block.Mode.{Mode}
-use Rattle.arch_types.specs.declared.block.Kind.{Kind}
-use Rattle.arch_types.specs.declared.block.Kind.TheVariants.{Modes}
 use Rattle.arch_types.specs.Tree.{kids_of}
-use Rattle.arch_types.specs.Address.{Address, step_to, copies, below, in_mode}
-use Rattle.arch_types.proofs.TreeRows.{modes_from, kids_from, in_mode_is, below_modes_are}
+use Rattle.arch_types.specs.Address.{Address, step_to, copies, below}
+use Rattle.arch_types.proofs.TreeRows.{modes_from, kids_from, in_mode_is}
 use Rattle.pb_expand.specs.declared.number.Step.{Step}
 use Rattle.pb_expand.specs.Graph.{step_from}
 use Rattle.pb_expand.specs.Rows.{address_by, addresses_after, addresses, IsTree}
@@ -68,7 +66,7 @@ grew_row old rows more to_come all parent mode child n here grew inside at e few
     let longer : length more ≡ length rows + 1 = ap length e ∙ length-append rows (s ∷ []) in
     let reads : get_or (addresses rows) parent [] ≡ here = grew_here old rows (step_to here mode child n ∷ to_come) all parent grew inside ∙ at in
     let adds : addresses more ≡ addresses rows ++ step_to here mode child n ∷ [] =
-      ap addresses e ∙ addresses-push rows s ∙ ap (λ a. addresses rows ++ step_to a mode child n ∷ []) reads in
+    ap addresses e ∙ addresses-push rows s ∙ ap (λ a. addresses rows ++ step_to a mode child n ∷ []) reads in
     let earlier : (k : ℕ) (r : Step) → slice_get (rows ++ s ∷ []) k ≡ Some r → r.parent.0 ≤ k = earlier_more rows s grew.tree (omega (arith, grew.longer)) in
     record {
       tree = record { earlier = subst (λ rs. (k : ℕ) (r : Step) → slice_get rs k ≡ Some r → r.parent.0 ≤ k) (sym e) earlier };
@@ -92,16 +90,23 @@ pub last_address : (rows more : List Step) (s : Step) (here a : Address) → mor
     a ≡ step_to here s.mode s.child s.instance → get_or (addresses more) (length more) [] ≡ a
 last_address rows more s here a e reads is =
     let adds : addresses more ≡ addresses rows ++ a ∷ [] =
-      ap addresses e ∙ addresses-push rows s ∙ ap (λ x. addresses rows ++ step_to x s.mode s.child s.instance ∷ []) reads ∙ ap (λ x. addresses rows ++ x ∷ []) (sym is) in
+    ap addresses e ∙ addresses-push rows s ∙ ap (λ x. addresses rows ++ step_to x s.mode s.child s.instance ∷ []) reads ∙ ap (λ x. addresses rows ++ x ∷ []) (sym is) in
     let place : length more ≡ length (addresses rows) = ap length e ∙ length-append rows (s ∷ []) ∙ omega (arith, length-addresses rows) in
     get_or_from_slice_get (addresses more) (length more) a []
-      (ap (λ xs. slice_get xs (length more)) adds ∙ get_after (addresses rows) [] a (length more) place)
+    (ap (λ xs. slice_get xs (length more)) adds ∙ get_after (addresses rows) [] a (length more) place)
 
 -- fewer instances stand below the last row than were to be added
 pub fewer_below : (old rows : List Step) (under to_come all : List Address) → Grew old rows (under ++ to_come) all → length old < length rows → length under < length all
 fewer_below old rows under to_come all grew longer =
-    omega (arith, length-addresses old, length-addresses rows, ap length grew.so_far, length-append (addresses rows) (under ++ to_come), length-append under to_come,
-      length-append (addresses old) all)
+    omega (
+      arith,
+      length-addresses old,
+      length-addresses rows,
+      ap length grew.so_far,
+      length-append (addresses rows) (under ++ to_come),
+      length-append under to_come,
+      length-append (addresses old) all,
+    )
 
 -- what is to come in the midst of a child: its instances from n on, and those of the children behind it
 abbrev pub kids_at : List PbType → ℕ → ℕ → ℕ → Address → List Address
@@ -116,7 +121,7 @@ kids_begin (kid ∷ kids) mode child here =
 
 pub kid_step : (kids : List PbType) (mode child n : ℕ) (here : Address) (kid : PbType) → child < length kids → kid ≡ get_or kids child kid → n < kid.count →
     kids_at (drop child kids) mode child n here
-      ≡ step_to here mode child n ∷ (below kid.kind (step_to here mode child n) ++ kids_at (drop child kids) mode child (n + 1) here)
+    ≡ step_to here mode child n ∷ (below kid.kind (step_to here mode child n) ++ kids_at (drop child kids) mode child (n + 1) here)
 kid_step kids mode child n here kid inside e more =
     let cut : drop child kids ≡ kid ∷ drop (suc child) kids = drop-cons kids child kid inside ∙ ap (λ x. x ∷ drop (suc child) kids) (sym e) in
     let count : kid.count - n ≡ suc (kid.count - (n + 1)) = omega arith in
@@ -124,7 +129,7 @@ kid_step kids mode child n here kid inside e more =
     let under = below kid.kind (step_to here mode child n) in
     let behind = copies (λ a. below kid.kind a) mode child (n + 1) (kid.count - (n + 1)) here in
     subst (λ ks. kids_at ks mode child n here ≡ step_to here mode child n ∷ (under ++ kids_at ks mode child (n + 1) here)) (sym cut)
-      (ap (λ k. copies (λ a. below kid.kind a) mode child n k here ++ rest) count ∙ ap (λ l. step_to here mode child n ∷ l) (append_assoc under behind rest))
+    (ap (λ k. copies (λ a. below kid.kind a) mode child n k here ++ rest) count ∙ ap (λ l. step_to here mode child n ∷ l) (append_assoc under behind rest))
 
 pub kid_end : (kids : List PbType) (mode child n : ℕ) (here : Address) (kid : PbType) → child < length kids → kid ≡ get_or kids child kid → kid.count ≤ n →
     kids_at (drop child kids) mode child n here ≡ kids_from (drop (child + 1) kids) mode (child + 1) here
@@ -133,8 +138,8 @@ kid_end kids mode child n here kid inside e done =
     let none : kid.count - n ≡ 0 = omega arith in
     let next : suc child ≡ child + 1 = omega arith in
     ap (λ ks. kids_at ks mode child n here) cut
-      ∙ ap (λ k. copies (λ a. below kid.kind a) mode child n k here ++ kids_from (drop (suc child) kids) mode (child + 1) here) none
-      ∙ ap (λ k. kids_from (drop k kids) mode (child + 1) here) next
+    ∙ ap (λ k. copies (λ a. below kid.kind a) mode child n k here ++ kids_from (drop (suc child) kids) mode (child + 1) here) none
+    ∙ ap (λ k. kids_from (drop k kids) mode (child + 1) here) next
 
 -- a mode begins
 pub mode_begin : (modes : List Mode) (mode : ℕ) (here : Address) (m : Mode) (kids : List PbType) → mode < length modes → m ≡ get_or modes mode m → kids_of m ≡ kids →
@@ -143,8 +148,8 @@ mode_begin modes mode here m kids inside e f =
     let next : suc mode ≡ mode + 1 = omega arith in
     let cut : drop mode modes ≡ m ∷ drop (suc mode) modes = drop-cons modes mode m inside ∙ ap (λ x. x ∷ drop (suc mode) modes) (sym e) in
     ap (λ ms. modes_from ms mode here) cut
-      ∙ ap (λ l. l ++ modes_from (drop (suc mode) modes) (mode + 1) here) (in_mode_is m mode here ∙ ap (λ ks. kids_from ks mode 0 here) f)
-      ∙ ap (λ k. kids_from kids mode 0 here ++ modes_from (drop k modes) (mode + 1) here) next
+    ∙ ap (λ l. l ++ modes_from (drop (suc mode) modes) (mode + 1) here) (in_mode_is m mode here ∙ ap (λ ks. kids_from ks mode 0 here) f)
+    ∙ ap (λ k. kids_from kids mode 0 here ++ modes_from (drop k modes) (mode + 1) here) next
 
 pub no_kids : (kids : List PbType) (mode child : ℕ) (here : Address) → length kids ≤ child → kids_from (drop child kids) mode child here ≡ []
 no_kids kids mode child here done = ap (λ ks. kids_from ks mode child here) (drop_all child kids done)
@@ -167,7 +172,7 @@ kid_pushed old rows more parent mode child n here kids kid tail all grew inside 
     let under = below kid.kind below_it in
     let behind = kids_at (drop child kids) mode child (n + 1) here in
     let opened : kids_at (drop child kids) mode child n here ++ tail ≡ below_it ∷ (under ++ (behind ++ tail)) =
-      ap (λ l. l ++ tail) (kid_step kids mode child n here kid inside e counted) ∙ ap (λ l. below_it ∷ l) (append_assoc under behind tail) in
+    ap (λ l. l ++ tail) (kid_step kids mode child n here kid inside e counted) ∙ ap (λ l. below_it ∷ l) (append_assoc under behind tail) in
     let grew_one = grew_by old rows (kids_at (drop child kids) mode child n here ++ tail) (below_it ∷ (under ++ (behind ++ tail))) all grew opened in
     let reads = grew_here old rows (below_it ∷ (under ++ (behind ++ tail))) all parent grew_one low ∙ at in
     let grown = grew_row old rows more (under ++ (behind ++ tail)) all parent mode child n here grew_one low at added few in

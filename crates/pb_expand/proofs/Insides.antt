@@ -1,13 +1,11 @@
 -- Pins and edges of a graph name instances and pins that are there.
-use Rattle.std.proofs.Common.{◌≡◌, ◌+◌, ◌<◌, ◌≤◌, ◌==◌, ◌&&◌, ℕ, Bool, true, List, Option, Some, None, IsSome, length, slice_get, refl, sym, ap, ◌∙◌, subst, arith}
+use Rattle.std.proofs.Common.{◌≡◌, ◌<◌, ◌==◌, ◌&&◌, ℕ, true, Some, length, slice_get, arith}
 use Rattle.std.proofs.lemmas.Option.{slice_get_within}
 use Rattle.std.proofs.lemmas.Bool.Decides.{nat_tests}
-use Rattle.vtr_base.specs.Lists.{Has}
-use Rattle.arch_types.specs.Address.{Address}
 use Rattle.pb_expand.specs.declared.number.Edge.{Edge}
 use Rattle.pb_expand.specs.declared.number.PinAt.{PinAt}
 use Rattle.pb_expand.specs.Graph.{Graph, pin_at}
-use Rattle.pb_expand.specs.Expansion.{HasPins, HasEdges, IsPin, IsEdgeOf, owner_address}
+use Rattle.pb_expand.specs.Expansion.{HasPins, HasEdges, IsPin}
 use Rattle.pb_expand.proofs.Lists.{has_at, at_has}
 
 pub pin_pb : (g : Graph) (k : ℕ) (p : PinAt) → HasPins g → slice_get g.pins k ≡ Some p → p.pb.0 < length g.instances

@@ -1,8 +1,7 @@
 -- Instances and pins that are numbered in a list stand in it once.
-use Rattle.std.proofs.Common.{◌≡◌, ◌+◌, ◌<◌, ◌≤◌, ℕ, List, [], ◌∷◌, Some, length, slice_get, refl, sym, ap, ◌∙◌, subst, arith}
+use Rattle.std.proofs.Common.{◌≡◌, ◌+◌, ◌≤◌, List, Some, length, slice_get, sym, ap, ◌∙◌, subst, arith}
 use Rattle.arch_types.specs.declared.block.PbType.{PbType}
-use Rattle.arch_types.specs.Address.{Address, step_to, instances_of}
-use Rattle.arch_types.specs.Numbering.{IsNumbering}
+use Rattle.arch_types.specs.Address.{step_to, instances_of}
 use Rattle.arch_types.proofs.Numbered.{is_numbering}
 use Rattle.arch_types.proofs.Once.{once_at}
 use Rattle.pb_expand.specs.declared.number.Step.{Step}
@@ -32,7 +31,7 @@ pins_are_of root blocks pins are e = e ∙ pins_over_are root 0 blocks (instance
 pub pins_of_once : (root : PbType) (pins : List PinAt) → pins ≡ pins_of root → AreOnce pins
 pins_of_once root pins e i j p at_i at_j =
     once_at (pins_from root 0 (instances_of root)) (pins_once root 0 (instances_of root)) i j p
-      (subst (λ l. slice_get l i ≡ Some p) e at_i) (subst (λ l. slice_get l j ≡ Some p) e at_j)
+    (subst (λ l. slice_get l i ≡ Some p) e at_i) (subst (λ l. slice_get l j ≡ Some p) e at_j)
 
 pub few_blocks : (root : PbType) (rows : List Step) (blocks : List PbType) → addresses rows ≡ instances_of root → AreBlocks root (instances_of root) blocks →
     length blocks ≡ 1 + length rows

@@ -1,13 +1,11 @@
 -- What rows say of the addresses of instances.
-use Rattle.std.proofs.Common.{◌≡◌, ◌+◌, ◌<◌, ◌≤◌, ◌==◌, ◌&&◌, ℕ, zero, suc, Bool, true, List, [], ◌∷◌, ◌++◌, Option, Some, None, IsSome, IfSome, MatchOption, length, get_or, slice_get, refl, sym, ap, ◌∙◌, subst, arith, length-append, add-one}
+use Rattle.std.proofs.Common.{◌≡◌, ◌+◌, ◌<◌, ◌==◌, ◌&&◌, ℕ, zero, suc, true, List, [], ◌∷◌, ◌++◌, Option, Some, IfSome, length, get_or, slice_get, refl, sym, ap, ◌∙◌, subst, arith, length-append}
 use Rattle.std.proofs.lemmas.Option.{slice_get_within, slice_get-get_or}
 use Rattle.std.proofs.lemmas.Bool.Decides.{nat_tests}
-use Rattle.std.proofs.lemmas.Bool.{eqb-true}
 use Rattle.arch_types.specs.Address.{Address, Hop, step_to}
 use Rattle.arch_types.specs.declared.block.PbType.{PbType}
 use Rattle.arch_types.specs.Numbering.{IsNumbering}
 use Rattle.pb_expand.specs.declared.number.Step.{Step}
-use Rattle.pb_expand.specs.declared.number.PinAt.{PinAt}
 use Rattle.pb_expand.specs.Graph.{LeadsTo, step_from, pb_ix, hop_of}
 use Rattle.pb_expand.specs.Rows.{address_by, addresses_after, addresses, IsTree}
 use Rattle.pb_expand.proofs.Lists.{get_front, get_after, element, snoc_front, snoc_last}

@@ -1,5 +1,5 @@
 -- A set that is filled from a list without equal items.
-use Rattle.std.proofs.Common.{◌≡◌, ◌+◌, ◌<◌, ◌≤◌, ◌||◌, ℕ, zero, suc, Bool, true, false, if◌then◌else◌, List, [], ◌∷◌, ◌++◌, Some, None, length, get_or, take, slice_get, refl, sym, ap, ◌∙◌, subst, arith}
+use Rattle.std.proofs.Common.{◌≡◌, ◌+◌, ◌<◌, ◌||◌, ℕ, zero, suc, Bool, true, false, if◌then◌else◌, List, [], ◌∷◌, ◌++◌, Some, length, get_or, take, slice_get, refl, sym, ap, ◌∙◌, arith}
 use Rattle.std.proofs.lemmas.List.{take_more}
 use Rattle.std.proofs.lemmas.Option.{slice_get-get_or}
 use Rattle.std.specs.List.{list_any}
@@ -21,7 +21,7 @@ pub set_more : {X : Type 0} (eq : X → X → Bool) (items keys new : List X) (n
     ((i j : ℕ) (y z : X) → slice_get items i ≡ Some y → slice_get items j ≡ Some z → eq y z ≡ true → i ≡ j) → new ≡ insert_key eq keys x → new ≡ take (n + 1) items
 set_more {X} eq items keys new n x is inside at once e =
     let none : list_any (eq x) (take n items) ≡ false =
-      none_before eq items n x (λ k y low at_k same. below_itself n k low (once n k x y at at_k same)) in
+    none_before eq items n x (λ k y low at_k same. below_itself n k low (once n k x y at at_k same)) in
     let read = slice_get-get_or items n x inside in
     let item : get_or items n x ≡ x = cc in
     let fresh : insert_key eq (take n items) x ≡ take n items ++ x ∷ [] = ap (λ b. if b then take n items else take n items ++ x ∷ []) none in

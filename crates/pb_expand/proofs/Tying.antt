@@ -1,14 +1,13 @@
 -- The parts of a graph that was made are tied.
-use Rattle.std.proofs.Common.{◌≡◌, ◌+◌, ◌≤◌, ℕ, List, length, sym, ap, ◌∙◌, subst, arith}
+use Rattle.std.proofs.Common.{◌≡◌, ◌≤◌, List, length, sym, ap, ◌∙◌, subst, arith}
 use Rattle.arch_types.specs.declared.block.PbType.{PbType}
 use Rattle.arch_types.specs.Address.{instances_of}
 use Rattle.arch_types.specs.Numbering.{IsNumbering}
 use Rattle.arch_types.proofs.Numbered.{is_numbering}
 use Rattle.pb_expand.specs.declared.graph.PbGraph.TheInside.{Inside}
-use Rattle.pb_expand.specs.Graph.{Graph, pins_of, pins_from}
+use Rattle.pb_expand.specs.Graph.{pins_of, pins_from}
 use Rattle.pb_expand.specs.Rows.{addresses, IsTree}
 use Rattle.pb_expand.specs.Ends.{AreEnds}
-use Rattle.pb_expand.specs.Expansion.{IsExpansion}
 use Rattle.pb_expand.specs.Tied.{graph_of, IsTied}
 use Rattle.pb_expand.specs.Making.{AreBlocks, AreShort, AreBefore}
 use Rattle.pb_expand.proofs.RowLemmas.{length-addresses}

@@ -1,13 +1,12 @@
 -- What a `PbGraph` is to callers: the block type's tree, and its instances, pins and edges by number.
-use Rattle.std.specs.Prelude.{◌≡◌, ◌==◌, ◌&&◌, ◌<◌, ◌+◌, ℕ, List, [], ◌∷◌, ◌++◌, Option, Some, None, map, length, slice_get, if◌then◌else◌}
+use Rattle.std.specs.Prelude.{◌≡◌, ◌==◌, ◌&&◌, ◌<◌, ◌+◌, ℕ, List, [], ◌∷◌, ◌++◌, Option, Some, map, length, slice_get, if◌then◌else◌}
 use Rattle.std.specs.Option.{option_map_or, option_and_then}
 use Rattle.vtr_base.specs.Lists.{up_from}
 use Rattle.arch_types.specs.declared.block.PbType.{PbType}
 use Rattle.arch_types.specs.declared.block.Port.{Port}
-use Rattle.arch_types.specs.declared.block.AtomKind.{AtomKind}
 use Rattle.arch_types.specs.declared.block.AtomKind.TheVariants as atom
 use Rattle.arch_types.specs.declared.block.Kind.{Kind, out-Kind}
-use Rattle.arch_types.specs.declared.block.Kind.TheOpen.{Kind-F, InPad, OutPad, Lut, Latch, Cell, Modes}
+use Rattle.arch_types.specs.declared.block.Kind.TheOpen.{InPad, OutPad, Lut, Latch, Cell, Modes}
 use Rattle.arch_types.specs.declared.block.Mode.{Mode}
 use Rattle.arch_types.specs.Tree.{modes_of}
 use Rattle.arch_types.specs.Address.{Address, Hop, at, step_to, instances_of}

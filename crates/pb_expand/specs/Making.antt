@@ -88,5 +88,5 @@ pub record AreBefore (blocks : List PbType) (instances : List Address) (pins : L
   pub each : (e : Edge) → Has edges e → IsMade blocks instances pins e × IsBefore n mode e
   pub all : (e : Edge) → IsMade blocks instances pins e → IsBefore n mode e → Has edges e
   pub once : (i j : ℕ) (e f : Edge) → slice_get edges i ≡ Some e → slice_get edges j ≡ Some f →
-    e.owner ≡ f.owner → e.mode ≡ f.mode → e.src ≡ f.src → e.dst ≡ f.dst → i ≡ j
+      e.owner ≡ f.owner → e.mode ≡ f.mode → e.src ≡ f.src → e.dst ≡ f.dst → i ≡ j
   pub ordered : (i j : ℕ) (e f : Edge) → i < j → slice_get edges i ≡ Some e → slice_get edges j ≡ Some f → IsNotAfter e f

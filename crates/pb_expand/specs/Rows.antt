@@ -1,5 +1,5 @@
 -- Instances as rows: row k is how instance k + 1 hangs on its parent. The root has no row.
-use Rattle.std.specs.Prelude.{◌≡◌, ◌≤◌, ◌<◌, ◌+◌, ℕ, List, [], ◌∷◌, ◌++◌, Some, slice_get, slice_index_or}
+use Rattle.std.specs.Prelude.{◌≡◌, ◌≤◌, ℕ, List, [], ◌∷◌, ◌++◌, Some, slice_get, slice_index_or}
 use Rattle.arch_types.specs.Address.{Address, step_to}
 use Rattle.pb_expand.specs.declared.number.Step.{Step}
 

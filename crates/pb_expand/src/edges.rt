@@ -112,12 +112,7 @@ fn place_of(
 }
 
 /// The number of the instance that has a pin of a mode of an instance.
-fn owner_of(
-    rows: &IndexSet<Step>,
-    owner: PbIx,
-    mode: u32,
-    child: Option<ChildAt>,
-) -> Option<PbIx>
+fn owner_of(rows: &IndexSet<Step>, owner: PbIx, mode: u32, child: Option<ChildAt>) -> Option<PbIx>
     requires tree { IsTree rows.now.keys }
     requires few { length rows.now.keys ≤ 1048575 }
     ensures { IfSome result (λ n. (a : Address) → slice_get (addresses rows.now.keys) owner.0 ≡ Some a → slice_get (addresses rows.now.keys) n.0 ≡ Some (owner_address a mode child)) }

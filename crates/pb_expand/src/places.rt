@@ -130,7 +130,10 @@ fn push_bits(pins: &mut Vec<PinAt>, pb: PbIx, port: u32, width: u32) -> Result<(
 }
 
 /// The set of these items, each at its place in the list.
-fn set_of<T: Copy + Eq + Hash + Drop>(alloc: Global, items: &[T]) -> Result<IndexSet<T>, ExpandError>
+fn set_of<T: Copy + Eq + Hash + Drop>(
+    alloc: Global,
+    items: &[T],
+) -> Result<IndexSet<T>, ExpandError>
     requires { (i j : ℕ) (x y : T) → slice_get items.now i ≡ Some x → slice_get items.now j ≡ Some y → T.eq x y ≡ true → i ≡ j }
     ensures { IfOk result (λ s. s.keys ≡ items.now) }
 {

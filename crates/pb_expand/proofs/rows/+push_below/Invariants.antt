@@ -17,12 +17,12 @@ abbrev pub invariant-loop-child : goal.invariant-loop-child
 invariant-loop-child l =
     let here = get_or (addresses l.fn.rows.items) l.here.0 [] in
     Grew l.fn.rows.items l.rows.items
-      (kids_from (drop l.child l.kid-items) l.mode l.child here ++ modes_from (drop (l.mode + 1) l.inside-items) (l.mode + 1) here)
-      (below l.block.kind here)
+    (kids_from (drop l.child l.kid-items) l.mode l.child here ++ modes_from (drop (l.mode + 1) l.inside-items) (l.mode + 1) here)
+    (below l.block.kind here)
 
 abbrev pub invariant-loop-instance : goal.invariant-loop-instance
 invariant-loop-instance l =
     let here = get_or (addresses l.fn.rows.items) l.here.0 [] in
     Grew l.fn.rows.items l.rows.items
-      (kids_at (drop l.child l.kid-items) l.mode l.child l.instance here ++ modes_from (drop (l.mode + 1) l.inside-items) (l.mode + 1) here)
-      (below l.block.kind here)
+    (kids_at (drop l.child l.kid-items) l.mode l.child l.instance here ++ modes_from (drop (l.mode + 1) l.inside-items) (l.mode + 1) here)
+    (below l.block.kind here)

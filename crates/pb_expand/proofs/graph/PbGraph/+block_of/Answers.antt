@@ -1,9 +1,6 @@
-use Rattle.std.proofs.Common.{◌≡◌, ◌<◌, ◌^◌, Some, length, sym, ◌∙◌, subst}
-use Rattle.arch_types.specs.declared.block.PbType.{PbType}
-use Rattle.arch_types.specs.Tree.{modes_of}
-use Rattle.pb_expand.specs.declared.graph.PbGraph.TheInside.{Inside}
+use Rattle.std.proofs.Common.{◌≡◌, Some, sym, ◌∙◌, subst}
 use Rattle.pb_expand.specs.Graph.{Graph, block_at}
-use Rattle.pb_expand.specs.Tied.{graph_of, IsTied}
+use Rattle.pb_expand.specs.Tied.{graph_of}
 use Rattle.pb_expand.specs.Expansion.{IsExpansion}
 use Rattle.pb_expand.proofs.RowLemmas.{root_first}
 use Rattle.pb_expand.proofs.Blocks.{child_there, block_below, root_block}

@@ -1,5 +1,4 @@
-use Rattle.std.proofs.Common.{◌≡◌, ◌+◌, ◌-◌, Option, Some, None, IsNone, IfSome, ◌∙◌, sym, subst, arith}
-use Rattle.pb_expand.specs.declared.number.Step.{Step}
+use Rattle.std.proofs.Common.{◌≡◌, ◌+◌, ◌-◌, Option, Some, IsNone, IfSome, ◌∙◌, subst, arith}
 use Rattle.pb_expand.specs.Graph.{Graph, LeadsTo}
 use Rattle.pb_expand.proofs.RowLemmas.{address_read, address_leads}
 use Rattle.pb_expand.proofs.graph.PbGraph.address_of.Goals as goal

@@ -1,7 +1,5 @@
-use Rattle.std.proofs.Common.{◌≡◌, IsSome, length, refl, sym, ap, ◌∙◌, subst}
-use Rattle.std.proofs.lemmas.Option.{slice_get_read}
-use Rattle.std.specs.Option.{option_map}
-use Rattle.arch_types.specs.Tree.{name_of_mode, modes_of}
+use Rattle.std.proofs.Common.{◌≡◌, IsSome, sym, ◌∙◌, subst}
+use Rattle.arch_types.specs.Tree.{modes_of}
 use Rattle.pb_expand.proofs.Blocks.{modes_are, mode_is, some_inside, named}
 use Rattle.pb_expand.proofs.graph.PbGraph.mode_name.Goals as goal
 

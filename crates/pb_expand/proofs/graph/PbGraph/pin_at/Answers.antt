@@ -1,4 +1,3 @@
-use Rattle.std.proofs.Common.{◌≡◌, ◌<◌, length, get_or, slice_get, Some}
 use Rattle.std.proofs.lemmas.Option.{slice_get-get_or}
 use Rattle.pb_expand.specs.Tied.{graph_of}
 use Rattle.pb_expand.specs.Graph.{pin_at}
