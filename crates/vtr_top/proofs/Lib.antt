@@ -1,2 +1,6 @@
 pub mod Standing
 pub mod Answered
+pub mod Stopped
+pub mod Said
+pub mod Named
+pub mod Graphs

@@ -22,14 +22,14 @@ pub fn run<S: Shelf, K: Sink>(alloc: Global, words: &[String], shelf: &mut S, ou
     ensures held { S.files shelf.new ≡ S.files shelf.old }
     ensures beside { K.beside out.new ≡ K.beside out.old }
 {
-    match answer(alloc, words, shelf) {
+    match answer_of(alloc, words, shelf) {
         Ok(Answer { status, text }) => say(out, text.as_slice(), status),
         Err(_) => say(out, b"memory\n", Status::Memory),
     }
 }
 
 /// The status and the text of a command, without printing it.
-fn answer<S: Shelf>(alloc: Global, words: &[String], shelf: &mut S) -> Result<Answer, AllocError>
+fn answer_of<S: Shelf>(alloc: Global, words: &[String], shelf: &mut S) -> Result<Answer, AllocError>
     ensures says { IfOk result (λ a. Says (map string_bytes words.now) (S.files shelf.old) (S.faults shelf.old) (S.faults shelf.new) a.status a.text.items) }
     ensures held { S.files shelf.new ≡ S.files shelf.old }
 {

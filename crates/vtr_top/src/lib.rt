@@ -7,6 +7,8 @@ mod print;
 mod command;
 mod status;
 mod stop;
+#[cfg(test)]
+mod tests;
 mod trace;
 mod words;
 
