@@ -1,6 +1,6 @@
 -- The edges of a mode of a pb_type: the pairs of pins that its interconnects give (VTR
 -- architecture reference, "Interconnect": direct, complete and mux).
-use Rattle.std.specs.Prelude.{◌≡◌, ◌≤◌, ◌<◌, ℕ, List, Option, Some, slice_get}
+use Rattle.std.specs.Prelude.{◌≡◌, ◌≤◌, ◌<◌, ℕ, List, Some, slice_get}
 use Rattle.vtr_base.specs.Lists.{Has}
 use Rattle.arch_types.specs.declared.block.PbType.{PbType}
 use Rattle.arch_types.specs.declared.block.Mode.{Mode}
@@ -8,7 +8,8 @@ use Rattle.arch_types.specs.declared.block.Inter.{Inter}
 use Rattle.arch_types.specs.declared.block.InterKind.{InterKind}
 use Rattle.arch_types.specs.declared.block.InterKind.TheVariants.{Direct, Complete, Mux}
 use Rattle.arch_types.specs.Tree.{inters_of}
-use Rattle.mode_edges.specs.PinWords.{source, end, ReadsPins}
+use Rattle.mode_edges.specs.PinWords.{ReadsPins}
+use Rattle.mode_edges.specs.declared.pin.Role.TheVariants.{Source, End}
 use Rattle.mode_edges.specs.declared.pin.LocalPin.{LocalPin}
 use Rattle.mode_edges.specs.declared.pin.LocalEdge.{LocalEdge}
 
@@ -24,8 +25,8 @@ pub record Gives (block : PbType) (mode : Mode) (inter : ℕ) (s d : LocalPin) :
   pub is : slice_get (inters_of mode) inter ≡ Some here
   pub ins : List LocalPin
   pub outs : List LocalPin
-  pub reads_ins : ReadsPins block mode source here.input ins
-  pub reads_outs : ReadsPins block mode end here.output outs
+  pub reads_ins : ReadsPins block mode Source here.input ins
+  pub reads_outs : ReadsPins block mode End here.output outs
   pub pair : IsPair here.kind ins outs s d
 
 -- the pair is an edge of the mode, owned by the first interconnect that gives it

@@ -1,2 +1,4 @@
 pub mod PinWords
+pub mod Readers
 pub mod Edges
+pub mod Pairs

@@ -11,12 +11,14 @@ use Rattle.arch_types.specs.declared.block.Port.{Port}
 use Rattle.arch_types.specs.declared.block.Side.{Side}
 use Rattle.arch_types.specs.declared.block.Side.TheVariants.{Input, Output, Clock}
 use Rattle.arch_types.specs.Tree.{kids_of}
+use Rattle.mode_edges.specs.declared.word.Ends.{Ends}
+use Rattle.mode_edges.specs.declared.pin.Role.{Role}
+use Rattle.mode_edges.specs.declared.pin.Role.TheVariants.{Source, End}
 use Rattle.mode_edges.specs.declared.pin.LocalPin.{LocalPin}
-use Rattle.mode_edges.specs.declared.pin.ChildAt.{ChildAt}
 
--- what stands in brackets: nothing, or the smaller and the larger end of a range
+-- what stands in brackets: nothing, or a range
 abbrev pub Index : Type 0
-Index = Option (ℕ × ℕ)
+Index = Option Ends
 
 -- decimal digits of any length, and their value
 pub record AreDigits (text : List ℕ) (n : ℕ) : Type 0 where
@@ -43,7 +45,7 @@ IsRange text lo hi = (AreDigits text lo × (hi ≡ lo)) ⊎ IsRangeOf text lo hi
 abbrev pub IsPart : List ℕ → List ℕ → Index → Type 0
 IsPart text name None = (text ≡ name) × Lacks name 91
 IsPart text name (Some r) =
-    (inside : List ℕ) × (text ≡ name ++ 91 ∷ (inside ++ 93 ∷ [])) × Lacks name 91 × IsRange inside r.0 r.1
+    (inside : List ℕ) × (text ≡ name ++ 91 ∷ (inside ++ 93 ∷ [])) × Lacks name 91 × IsRange inside r.low r.high
 
 -- a word: what stands before its one dot, and the port behind it
 pub record Word : Type 0 where
@@ -61,28 +63,23 @@ pub record IsWord (text : List ℕ) (w : Word) : Type 0 where
 -- the members of `count` that an index names: all without one, else from the smaller to the larger
 abbrev pub AreMembers : Index → ℕ → List ℕ → Type 0
 AreMembers None count members = members ≡ up_from 0 count
-AreMembers (Some r) count members = (r.1 < count) × (members ≡ up_from r.0 ((r.1 + 1) - r.0))
-
--- a word is read where the pins are sources of an interconnect, or where they are its ends
-pub data Role : Type 0 where
-  source : Role
-  end : Role
+AreMembers (Some r) count members = (r.high < count) × (members ≡ up_from r.low ((r.high + 1) - r.low))
 
 -- a port of the block itself: a source is an input or a clock, an end is an output
 abbrev pub IsOwnSide : Role → Side → Type 0
-IsOwnSide source Input = Unit {0}
-IsOwnSide source Clock = Unit {0}
-IsOwnSide source Output = ⊥
-IsOwnSide end Output = Unit {0}
-IsOwnSide end _ = ⊥
+IsOwnSide Source Input = Unit {0}
+IsOwnSide Source Clock = Unit {0}
+IsOwnSide Source Output = ⊥
+IsOwnSide End Output = Unit {0}
+IsOwnSide End _ = ⊥
 
 -- a port of a child: a source is an output, an end is an input or a clock
 abbrev pub IsChildSide : Role → Side → Type 0
-IsChildSide source Output = Unit {0}
-IsChildSide source _ = ⊥
-IsChildSide end Input = Unit {0}
-IsChildSide end Clock = Unit {0}
-IsChildSide end Output = ⊥
+IsChildSide Source Output = Unit {0}
+IsChildSide Source _ = ⊥
+IsChildSide End Input = Unit {0}
+IsChildSide End Clock = Unit {0}
+IsChildSide End Output = ⊥
 
 -- the port of that name, on the right side, and which of its bits the word names
 pub record NamesPort (ports : List Port) (Fits : Side → Type 0) (w : Word) (port : ℕ) (bits : List ℕ) : Type 0 where

@@ -21,3 +21,17 @@ pub struct LocalEdge {
     pub dst: LocalPin,
     pub inter: u32,
 }
+
+/// Which end of an edge a list of pin words names.
+#[derive(Clone, Copy, Debug, PartialEq, Eq)]
+pub enum Role {
+    Source,
+    End,
+}
+
+/// The two ends of an edge.
+#[derive(Clone, Copy, Debug, PartialEq, Eq, Hash)]
+pub struct Pair {
+    pub src: LocalPin,
+    pub dst: LocalPin,
+}

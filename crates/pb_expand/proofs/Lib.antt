@@ -2,3 +2,13 @@ pub mod Lists
 pub mod RowLemmas
 pub mod Insides
 pub mod Blocks
+pub mod Grows
+pub mod EndLemmas
+pub mod Fills
+pub mod PinLemmas
+pub mod BlockList
+pub mod SetLemmas
+pub mod Numbers
+pub mod Batch
+pub mod EdgeList
+pub mod Tying

@@ -1,9 +1,10 @@
 -- Reading lists.
-use Rattle.std.proofs.Common.{◌≡◌, ◌≢◌, ◌+◌, ◌<◌, ◌≤◌, ℕ, zero, suc, Bool, true, false, not, nat_lt, cond, List, [], ◌∷◌, ◌++◌, Option, Some, None, IsSome, MatchOption, length, get_or, slice_get, position, refl, sym, ap, ◌∙◌, subst, inl, inr, arith, rules, length-append}
-use Rattle.std.proofs.lemmas.Option.{slice_get_within, slice_get_past, slice_get-get_or, get_or_from_slice_get}
+use Rattle.std.proofs.Common.{◌≡◌, ◌≢◌, ◌+◌, ◌<◌, ◌≤◌, ◌⊎◌, ℕ, zero, suc, Bool, true, false, not, nat_lt, cond, List, [], ◌∷◌, ◌++◌, Option, Some, None, IsSome, MatchOption, length, get_or, slice_get, map, Bor, position, refl, sym, ap, ◌∙◌, subst, inl, inr, arith, rules, length-append}
+use Rattle.std.proofs.lemmas.Option.{slice_get_within, slice_get_past, slice_get-get_or, get_or_from_slice_get, slice_get-map, slice_get_read}
 use Rattle.std.proofs.lemmas.List.Sums.{fails_before_first, prefix_len_stops}
 use Rattle.std.proofs.lemmas.Bool.Decides.{nat_tests}
 use Rattle.std.specs.List.{position_or_len}
+use Rattle.std.specs.Option.{option_map}
 use Rattle.vtr_base.specs.Lists.{Has}
 
 pub get_front : {X : Type 0} (xs ys : List X) (k : ℕ) (x : X) → slice_get xs k ≡ Some x → slice_get (xs ++ ys) k ≡ Some x
@@ -15,6 +16,13 @@ pub get_after : {X : Type 0} (xs ys : List X) (y : X) (k : ℕ) → k ≡ length
 get_after [] ys y k e = rw e refl
 get_after (x ∷ xs) ys y zero e = absurd (omega arith)
 get_after (x ∷ xs) ys y (suc k) e = get_after xs ys y k (omega arith)
+
+-- what stands in a list stands in its front or behind it
+pub get_either : {X : Type 0} (xs ys : List X) (k : ℕ) (x : X) → slice_get (xs ++ ys) k ≡ Some x →
+    (slice_get xs k ≡ Some x) ⊎ ((j : ℕ) × (k ≡ length xs + j) × (slice_get ys j ≡ Some x))
+get_either [] ys k x e = inr (k, omega arith, e)
+get_either (y ∷ xs) ys zero x e = inl e
+get_either (y ∷ xs) ys (suc k) x e = elim (get_either xs ys k x e) [ inl h ↦ inl h | inr h ↦ inr (h.0, omega (arith, h.1), h.2) ]
 
 pub has_at : {X : Type 0} (xs : List X) (k : ℕ) (x : X) → slice_get xs k ≡ Some x → Has xs x
 has_at [] k x e = cc
@@ -77,3 +85,7 @@ place_says {X} p xs r x e only passes = rw e (by (nat_lt (position_or_len p xs) 
         let read = get_or_from_slice_get xs k x x at in
         let fails = fails_before_first p xs k x (omega (arith, slice_get_within xs k x at)) in
         false_not_true (p x) (ap p (sym read) ∙ fails) passes
+
+-- what a read of a list of references gives
+pub now_at : {X : Type 0} (xs : List (Bor X)) (k : ℕ) (x : Bor X) → k < length xs → x ≡ get_or xs k x → slice_get (map (λ b. b.now) xs) k ≡ Some x.now
+now_at xs k x inside e = slice_get-map (λ (b : Bor _). b.now) xs k ∙ ap (option_map (λ (b : Bor _). b.now)) (slice_get_read xs (length xs) k x refl inside e)

@@ -1,4 +1,4 @@
-ghost use Rattle.std.specs.Prelude.{◌≡◌, ◌<◌, ◌^◌, ◌↔◌, ℕ, Some, IsNone, IsSome, IfSome, MatchOption, length, slice_get};
+ghost use Rattle.std.specs.Prelude.{◌≡◌, ◌<◌, ◌^◌, ◌↔◌, ℕ, Some, IsNone, IsSome, IfSome, IfOk, MatchOption, length, slice_get};
 ghost use Rattle.std.specs.Option.{option_map};
 ghost use Rattle.arch_types.specs.Tree.{modes_of, name_of_mode};
 ghost use Rattle.arch_types.specs.Address.{child_at};
@@ -6,11 +6,16 @@ ghost use Rattle.pb_expand.specs.Graph.{LeadsTo, block_at, mode_at, kind_of, int
 ghost use Rattle.pb_expand.specs.Ends.{listed};
 ghost use Rattle.pb_expand.specs.Expansion.{IsExpansion, IsPin};
 
+use crate::copy::copy_block;
+use crate::edges::edges_of;
+use crate::ends::ends_of;
 use crate::number::End;
-use crate::{Edge, EdgeIx, PbIx, PbKind, PinAt, PinIx, Step};
-use arch_types::{AtomKind, Kind, Mode, PbType, Port};
+use crate::places::places_of;
+use crate::{Edge, EdgeIx, ExpandError, PbIx, PbKind, PinAt, PinIx, Step};
+use arch_types::{Arch, AtomKind, Kind, Mode, PbType, Port};
 use indexmap::IndexSet;
 use sqlite_items::Items;
+use std::alloc::Global;
 use std::collections::HashMap;
 use std::marker::Model;
 
@@ -217,15 +222,36 @@ impl PbGraph {
     }
 }
 
+/// A block type of an architecture as a graph.
+pub fn expand(alloc: Global, arch: &Arch, block: u32) -> Result<PbGraph, ExpandError>
+    requires { block < length arch.now.blocks }
+    ensures block { IfOk result (λ g. g.block ≡ block) }
+    ensures root { IfOk result (λ g. slice_get arch.now.blocks block ≡ Some g.root) }
+{
+    let root = copy_block(alloc, &arch.blocks.as_slice()[block as usize])?;
+    let places = places_of(alloc, &root)?;
+    let edges = edges_of(alloc, &places)?;
+    let into = ends_of(alloc, edges.as_slice())?;
+    let (rows, pins) = places.into_sets();
+    Ok(PbGraph {
+        block,
+        root,
+        rows,
+        pins,
+        edges,
+        into,
+    })
+}
+
 /// The row that is this step.
-fn place_of_step(rows: &IndexSet<Step>, step: Step) -> Option<usize>
+pub(crate) fn place_of_step(rows: &IndexSet<Step>, step: Step) -> Option<usize>
     ensures { MatchOption result ((k : ℕ) → slice_get rows.now.keys k ≡ Some step → ⊥) (λ k. slice_get rows.now.keys k ≡ Some step) }
 {
     rows.get_index_of(&step)
 }
 
 /// The place of this pin.
-fn place_of_pin(pins: &IndexSet<PinAt>, pin: PinAt) -> Option<usize>
+pub(crate) fn place_of_pin(pins: &IndexSet<PinAt>, pin: PinAt) -> Option<usize>
     ensures { MatchOption result ((k : ℕ) → slice_get pins.now.keys k ≡ Some pin → ⊥) (λ k. slice_get pins.now.keys k ≡ Some pin) }
 {
     pins.get_index_of(&pin)
@@ -242,7 +268,7 @@ fn edges_at(into: &HashMap<End, Items<EdgeIx>>, end: End) -> &[EdgeIx]
 }
 
 /// The child of a block to which a step leads.
-fn child_below(block: &PbType, step: Step) -> &PbType
+pub(crate) fn child_below(block: &PbType, step: Step) -> &PbType
     requires { IsSome (child_at block.now (hop_of step)) }
     ensures { child_at block.now (hop_of step) ≡ Some result.now }
 {
@@ -252,5 +278,15 @@ fn child_below(block: &PbType, step: Step) -> &PbType
             let mode: &Mode = &modes.as_slice()[step.mode as usize];
             &mode.kids.as_slice()[step.child as usize]
         }
+    }
+}
+
+/// The modes of a pb_type; a leaf has none.
+pub(crate) fn modes_in(block: &PbType) -> &[Mode]
+    ensures { result.now ≡ modes_of block.now.kind }
+{
+    match &block.kind {
+        Kind::InPad | Kind::OutPad | Kind::Lut | Kind::Latch | Kind::Cell(_) => &[],
+        Kind::Modes(modes) => modes.as_slice(),
     }
 }

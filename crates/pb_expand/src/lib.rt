@@ -2,8 +2,17 @@
 //! in the tree of pb_types.
 #![tactic(auto)]
 
+mod copy;
+mod edges;
+mod ends;
+mod error;
 mod graph;
 mod number;
+mod places;
+mod rows;
+#[cfg(test)]
+mod tests;
 
-pub use graph::PbGraph;
+pub use error::ExpandError;
+pub use graph::{PbGraph, expand};
 pub use number::{Edge, EdgeIx, PbIx, PbKind, PinAt, PinIx, Step};

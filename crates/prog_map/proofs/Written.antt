@@ -11,7 +11,8 @@ use Rattle.arch_types.specs.Address.{Address, Hop, at, child_at, step_to}
 use Rattle.pb_expand.specs.declared.number.Step.{Step}
 use Rattle.pb_expand.specs.Graph.{Graph, LeadsTo, hop_of, block_at, mode_at}
 use Rattle.pb_expand.specs.declared.number.PinAt.{PinAt}
-use Rattle.pb_expand.specs.Expansion.{IsExpansion, IsPin}
+use Rattle.pb_expand.specs.declared.number.Edge.{Edge}
+use Rattle.pb_expand.specs.Expansion.{IsExpansion, IsPin, IsEdgeOf}
 use Rattle.pb_expand.proofs.Lists.{has_at}
 use Rattle.pb_expand.proofs.Blocks.{Takes, takes, mode_is, has_block, child_there, block_below, some_inside}
 use Rattle.prog_map.specs.Names.{step_text, steps_text, mode_text, instance_name, port_at, port_text}
@@ -121,3 +122,13 @@ pub port_named : (g : Graph) (pin : PinAt) (ports : List Port) (port : Port) →
 port_named g pin ports port is there read =
     ap (λ o. option_map_or (λ (p : Port). p.name) o [])
       (port_read g pin ports is ∙ slice_get-get_or ports pin.port port (port_inside g pin ports is there) ∙ ap Some (sym read))
+
+-- the mode of an edge is there
+pub edge_mode_there : (g : Graph) (number : ℕ) (edge : Edge) → IsExpansion g → slice_get g.edges number ≡ Some edge →
+    IsSome (mode_at g edge.owner.0 edge.mode)
+edge_mode_there g number edge law there =
+    let e : IsEdgeOf g edge = law.has_edges.each edge (has_at g.edges number edge there) in
+    let is_block : block_at g edge.owner.0 ≡ Some e.block = ap (option_and_then (λ (a : Address). at g.root a)) e.is_owner ∙ e.is_block in
+    let is : mode_at g edge.owner.0 edge.mode ≡ Some e.mode =
+      mode_is g edge.owner.0 edge.mode e.block (modes_of e.block.kind) is_block refl ∙ e.is_mode in
+    subst (λ o. IsSome o) (sym is) refl

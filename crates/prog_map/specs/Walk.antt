@@ -1,5 +1,5 @@
 -- A walk along a relation that leads from a pin to the one before it.
-use Rattle.std.specs.Prelude.{◌≡◌, ◌⊎◌, ℕ, List, [], ◌∷◌}
+use Rattle.std.specs.Prelude.{◌≡◌, ◌<◌, ◌⊎◌, ℕ, List, [], ◌∷◌, Some, length, slice_get}
 use Rattle.vtr_base.specs.Lists.{Has}
 
 -- a walk from `start` to `last` that meets no pin twice; `earlier` are the pins before `last`, the
@@ -13,3 +13,13 @@ pub record IsLast (Step : ℕ → ℕ → Type 0) (start last : ℕ) : Type 0 wh
   pub earlier : List ℕ
   pub walk : IsWalk Step start last earlier
   pub ends : ((pin : ℕ) → Step last pin → ⊥) ⊎ ((pin : ℕ) × Step last pin × Has (last ∷ earlier) pin)
+
+-- the walk ends at the pin: no step leads on, or one leads to a pin with the walk's mark
+abbrev pub EndsAt : (ℕ → ℕ → Type 0) → List ℕ → ℕ → ℕ → Type 0
+EndsAt Step met mark pin = ((p : ℕ) → Step pin p → ⊥) ⊎ ((p : ℕ) × Step pin p × (slice_get met p ≡ Some mark))
+
+-- a step leads on, to a pin without the walk's mark
+pub record LeadsOn (Step : ℕ → ℕ → Type 0) (met : List ℕ) (mark pin next : ℕ) : Type 0 where
+  pub step : Step pin next
+  pub inside : next < length met
+  pub unmarked : slice_get met next ≡ Some mark → ⊥

@@ -3,13 +3,18 @@
 #![tactic(auto)]
 
 mod back;
+mod find;
 mod lines;
 mod live;
 mod names;
 mod prog;
+mod read;
+mod walk;
 
 pub use back::follow;
 pub use lines::next_line;
 pub use live::is_live;
 pub use names::{put_instance, put_pin};
 pub use prog::Prog;
+pub use read::{ProgError, read_prog};
+pub use walk::last_pin;

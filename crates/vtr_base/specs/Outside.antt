@@ -1,5 +1,5 @@
 -- What shelves and sinks hold, and how a call changes it.
-use Rattle.std.specs.Prelude.{◌≡◌, ◌<◌, ◌⊎◌, ℕ, List, [], ◌++◌, Option, Some, None, IfSome, IsSome, length}
+use Rattle.std.specs.Prelude.{◌≡◌, ◌<◌, ◌≤◌, ◌⊎◌, ℕ, List, [], ◌++◌, Option, Some, None, IfSome, IsSome, length}
 use Rattle.std.specs.Ordering.{nat_cmp}
 use Rattle.std.specs.Cmp.Lexicographic.{slice_cmp}
 use Rattle.std.specs.FinMap as map
@@ -22,15 +22,18 @@ IsHeld m name = IsSome (file m name)
 abbrev pub IsHeldLonger : Files → List ℕ → ℕ → Type 0
 IsHeldLonger m name room = (bytes : List ℕ) × (file m name ≡ Some bytes) × (room < length bytes)
 
--- what stands beside the bytes of a sink that writes into one file of a shelf: the file's name
--- and, where the shelf tells them, all files but this one
+-- what stands beside the bytes of a sink that writes into one file of a shelf: the file's name,
+-- where the shelf tells them all files but this one, and the borrow of the shelf that the sink
+-- writes through, by the number that proofs know it by
 pub record Beside : Type 0 where
   pub name : List ℕ
   pub others : Option Files
+  pub loan : ℕ
 
--- a count of faults rose, or stands at its last value
+-- a count of faults rose, or stands where no counter goes on: a counter's last value, or beyond,
+-- where several counts are summed
 abbrev pub Rose : ℕ → ℕ → Type 0
-Rose old new = (old < new) ⊎ (new ≡ 18446744073709551615)
+Rose old new = (old < new) ⊎ (18446744073709551615 ≤ new)
 
 -- where files are told, this is said of them
 abbrev pub Told : Option Files → (Files → Type 0) → Type 0

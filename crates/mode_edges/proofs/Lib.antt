@@ -1,0 +1,12 @@
+mod Digits
+mod OneReading
+mod NoReading
+mod Places
+mod WordsOf
+mod WasRead
+mod OneMeaning
+mod Meanings
+mod NamesSoFar
+mod EdgeSets
+mod PairKeys
+mod Steps

@@ -1,0 +1,6 @@
+use Rattle.mode_edges.specs.Pairs.{edges_in}
+use Rattle.mode_edges.proofs.EdgeSets.{EdgesTo}
+use Rattle.mode_edges.proofs.edges.edges_of_mode.Given as goal
+
+abbrev pub invariant-loop-place : goal.invariant-loop-place
+invariant-loop-place l = EdgesTo l.block l.mode l.place (edges_in l.found)

@@ -1,0 +1,92 @@
+-- What the parts of a graph are while it is made.
+use Rattle.std.specs.Prelude.{◌≡◌, ◌≤◌, ◌<◌, ◌+◌, ◌^◌, ◌⊎◌, ℕ, List, [], ◌∷◌, ◌++◌, Some, length, slice_get}
+use Rattle.vtr_base.specs.Lists.{Has}
+use Rattle.arch_types.specs.declared.block.PbType.{PbType}
+use Rattle.arch_types.specs.declared.block.Mode.{Mode}
+use Rattle.arch_types.specs.Tree.{modes_of}
+use Rattle.arch_types.specs.Address.{Address, at}
+use Rattle.mode_edges.specs.declared.pin.LocalPin.{LocalPin}
+use Rattle.mode_edges.specs.declared.pin.LocalEdge.{LocalEdge}
+use Rattle.mode_edges.specs.Edges.{IsEdge}
+use Rattle.pb_expand.specs.declared.number.Step.{Step}
+use Rattle.pb_expand.specs.declared.number.PinAt.{PinAt}
+use Rattle.pb_expand.specs.declared.number.Edge.{Edge}
+use Rattle.pb_expand.specs.Graph.{pin_ix, pb_ix, pin_at, pins_of_ports}
+use Rattle.pb_expand.specs.Expansion.{owner_address, IsNotAfter}
+use Rattle.pb_expand.specs.Rows.{addresses, IsTree}
+
+-- each pb_type has fewer than 2^32 modes
+pub record AreShort (blocks : List PbType) : Type 0 where
+  pub each : (n : ℕ) (block : PbType) → slice_get blocks n ≡ Some block → length (modes_of block.kind) < 2 ^ 32
+
+-- the pb_types of the instances, by number
+pub record AreBlocks (root : PbType) (instances : List Address) (blocks : List PbType) : Type 0 where
+  pub each : (n : ℕ) (a : Address) → slice_get instances n ≡ Some a → (block : PbType) × (at root a ≡ Some block) × (slice_get blocks n ≡ Some block)
+  pub all : length blocks ≡ length instances
+
+-- the pins of these instances, of which the first is numbered n
+abbrev pub pins_over : ℕ → List PbType → List PinAt
+pins_over n [] = []
+pins_over n (block ∷ blocks) = pins_of_ports n 0 block.ports ++ pins_over (n + 1) blocks
+
+-- no element has two places
+abbrev pub AreOnce : {X : Type 0} → List X → Type 0
+AreOnce {X} xs = (i j : ℕ) (x : X) → slice_get xs i ≡ Some x → slice_get xs j ≡ Some x → i ≡ j
+
+-- each instance and each pin has one number
+pub record AreNumbered (rows : List Step) (pins : List PinAt) : Type 0 where
+  pub tree : IsTree rows
+  pub few_rows : length rows ≤ 1048575
+  pub few_pins : length pins ≤ 1048576
+  pub once_instances : AreOnce (addresses rows)
+  pub once_pins : AreOnce pins
+
+-- the pin of number n is that local pin, for a block at an address and one of its modes
+pub record Stands (instances : List Address) (pins : List PinAt) (n : ℕ) (address : Address) (mode : ℕ) (pin : LocalPin) : Type 0 where
+  pub pb : ℕ
+  pub is_pin : slice_get pins n ≡ Some (pin_at pb pin.port pin.bit)
+  pub is_instance : slice_get instances pb ≡ Some (owner_address address mode pin.owner)
+
+abbrev pub edge_at : ℕ → ℕ → ℕ → ℕ → ℕ → Edge
+edge_at src dst owner mode inter = record { src = pin_ix src; dst = pin_ix dst; owner = pb_ix owner; mode = mode; inter = inter }
+
+-- the edge is that local edge, in a mode of an instance
+pub record IsPlaced (instances : List Address) (pins : List PinAt) (owner mode : ℕ) (l : LocalEdge) (e : Edge) : Type 0 where
+  pub src : ℕ
+  pub dst : ℕ
+  pub is : e ≡ edge_at src dst owner mode l.inter
+  pub at_src : (a : Address) → slice_get instances owner ≡ Some a → Stands instances pins src a mode l.src
+  pub at_dst : (a : Address) → slice_get instances owner ≡ Some a → Stands instances pins dst a mode l.dst
+
+-- the edges of a mode of an instance were added, one by one
+pub record AddsPlaced (instances : List Address) (pins : List PinAt) (owner mode : ℕ) (local : List LocalEdge) (old new : List Edge) : Type 0 where
+  pub more : List Edge
+  pub is : new ≡ old ++ more
+  pub all : length more ≡ length local
+  pub placed : (k : ℕ) (l : LocalEdge) (e : Edge) → slice_get local k ≡ Some l → slice_get more k ≡ Some e → IsPlaced instances pins owner mode l e
+
+-- an edge of the graph that is made
+pub record IsMade (blocks : List PbType) (instances : List Address) (pins : List PinAt) (e : Edge) : Type 0 where
+  pub address : Address
+  pub is_owner : slice_get instances e.owner.0 ≡ Some address
+  pub block : PbType
+  pub is_block : slice_get blocks e.owner.0 ≡ Some block
+  pub mode : Mode
+  pub is_mode : slice_get (modes_of block.kind) e.mode ≡ Some mode
+  pub src : LocalPin
+  pub dst : LocalPin
+  pub edge : IsEdge block mode e.inter src dst
+  pub is_src : Stands instances pins e.src.0 address e.mode src
+  pub is_dst : Stands instances pins e.dst.0 address e.mode dst
+
+-- the edge is of an instance before number n, or of n and a mode before that one
+abbrev pub IsBefore : ℕ → ℕ → Edge → Type 0
+IsBefore n mode e = (e.owner.0 < n) ⊎ ((e.owner.0 ≡ n) × (e.mode < mode))
+
+-- exactly the edges before a mode of an instance, in their order
+pub record AreBefore (blocks : List PbType) (instances : List Address) (pins : List PinAt) (n mode : ℕ) (edges : List Edge) : Type 0 where
+  pub each : (e : Edge) → Has edges e → IsMade blocks instances pins e × IsBefore n mode e
+  pub all : (e : Edge) → IsMade blocks instances pins e → IsBefore n mode e → Has edges e
+  pub once : (i j : ℕ) (e f : Edge) → slice_get edges i ≡ Some e → slice_get edges j ≡ Some f →
+    e.owner ≡ f.owner → e.mode ≡ f.mode → e.src ≡ f.src → e.dst ≡ f.dst → i ≡ j
+  pub ordered : (i j : ℕ) (e f : Edge) → i < j → slice_get edges i ≡ Some e → slice_get edges j ≡ Some f → IsNotAfter e f

@@ -1,0 +1,5 @@
+pub mod Words
+pub mod Lines
+pub mod Inputs
+pub mod Stops
+pub mod Says
