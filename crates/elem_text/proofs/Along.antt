@@ -6,7 +6,18 @@ use Rattle.elem_text.specs.declared.elem.Elem.{Elem}
 use Rattle.elem_text.specs.Bytes.{place_after, IsSpan, IsNamed}
 use Rattle.elem_text.specs.Tree.{Piece, opens, closes, hollow, run, skip, IsDocument}
 use Rattle.elem_text.specs.Grammar.{IsLex, Reads, IsFile, IsStartTag, IsEndTag, IsComment, IsInstruction, IsAttr, IsQuoted, Attributes, tail_of}
-use Rattle.elem_text.specs.Stack.{Stack, IsAllowed, AreAllowed, next, after, outside, IsFinished}
+use Rattle.elem_text.specs.Stack.{Stack, IsAllowed, AreAllowed, next, after, outside, IsFinished, IsUnfinished, IsShallowFor, IsTooDeepFor}
+use Rattle.elem_text.specs.Refusals.{AreShallow, IsBad, Fails, wrong, unread, cut, short, BreaksFrom, DeepensFrom, RefusesFrom, TellsFlaw, TellsRefusal}
+use Rattle.elem_text.specs.Flaws.{IsFlawOf, APiece}
+use Rattle.elem_text.specs.declared.lex.Flaw.{Flaw}
+use Rattle.elem_text.specs.declared.lex.Flaw.TheVariants.{Cut, Bad, OutOfMemory as no_memory}
+use Rattle.elem_text.specs.declared.stack.Refusal.{Refusal}
+use Rattle.elem_text.specs.declared.stack.Refusal.TheVariants.{Broken as not_allowed, Deep as deeper, OutOfMemory as memory_gone}
+use Rattle.elem_text.specs.declared.error.ElemError.{ElemError}
+use Rattle.elem_text.specs.declared.error.ElemError.TheVariants.{Broken, Deep, OutOfMemory}
+use Rattle.elem_text.proofs.Complete.{fits_so_far, stuck, unfinished, shallow_next, too_deep, allowed_deep}
+use Rattle.elem_text.proofs.OneLex.{is_cut}
+use Rattle.elem_text.proofs.Spans.{begun_by}
 use Rattle.elem_text.proofs.Stacks.{finished}
 use Rattle.elem_text.proofs.Comments.{comment_ends, instruction_ends}
 
@@ -84,7 +95,7 @@ lex_front at b (closes n) rest l = end_front b n rest l
 lex_front at b (run raw) rest l = record { front = raw; spelled = l.span.spelled; some = some_front raw l.some }
 lex_front at b skip rest l = ⊎_elim (comment_front b rest) (instruction_front b rest) l
 
-reads_push : (at : Place) (b : List ℕ) (ps : List Piece) (end : Place) (rest : List ℕ) (front later : List ℕ) (p : Piece) →
+pub reads_push : (at : Place) (b : List ℕ) (ps : List Piece) (end : Place) (rest : List ℕ) (front later : List ℕ) (p : Piece) →
     Reads at b ps end rest → rest ≡ front ++ later → IsLex end rest p later → Reads at b (ps ++ p ∷ []) (place_after end front) later
 reads_push at b [] end rest front later p r e l =
     let P : List ℕ → Type 0 = λ x. IsLex end x p later in
@@ -106,21 +117,23 @@ pub record Along (start : Place) (bytes : List ℕ) (place : Place) (rest : List
   pub ps : List Piece
   pub reads : Reads start bytes ps place rest
   pub allowed : AreAllowed outside ps
+  pub shallow : AreShallow 0 ps
   pub to : after outside ps ≡ s
 
 pub along_start : (start : Place) (bytes : List ℕ) (s : Stack) → s ≡ outside → Along start bytes start bytes s
-along_start start bytes s e = record { ps = []; reads = (refl, refl); allowed = tt; to = sym e }
+along_start start bytes s e = record { ps = []; reads = (refl, refl); allowed = tt; shallow = tt; to = sym e }
 
 pub along_next : (start : Place) (bytes : List ℕ) (place : Place) (rest : List ℕ) (s s' : Stack) (p : Piece) (front later : List ℕ) (place' : Place) →
     Along start bytes place rest s → IsLex place rest p later → rest ≡ front ++ later → place' ≡ place_after place front →
-    IsAllowed s p → s' ≡ next s p → Along start bytes place' later s'
-along_next start bytes place rest s s' p front later place' a l e q h n =
+    IsAllowed s p → IsShallowFor s p → s' ≡ next s p → Along start bytes place' later s'
+along_next start bytes place rest s s' p front later place' a l e q h d n =
     let P : Stack → Type 0 = λ x. IsAllowed x p in
     let R : Place → Type 0 = λ x. Reads start bytes (a.ps ++ p ∷ []) x later in
     record {
       ps = a.ps ++ p ∷ [];
       reads = subst R (sym q) (reads_push start bytes a.ps place rest front later p a.reads e l);
       allowed = allowed_push outside a.ps p a.allowed (subst P (sym a.to) h);
+      shallow = let S : Stack → Type 0 = λ x. IsShallowFor x p in shallow_next a.ps p a.shallow (subst S (sym a.to) d);
       to = after_push outside a.ps p ∙ (ap (λ x. next x p) a.to ∙ sym n);
     }
 
@@ -130,3 +143,77 @@ along_found start bytes place rest s e a n f =
     let P : Stack → Type 0 = λ x. IsFinished x e in
     let R : List ℕ → Type 0 = λ x. Reads start bytes a.ps place x in
     record { ps = a.ps; end = place; reads = subst R n a.reads; document = finished a.ps e a.allowed (subst P (sym a.to) f) }
+
+-- where no piece was read
+pub along_flaw : (start : Place) (bytes : List ℕ) (place : Place) (rest : List ℕ) (s : Stack) (f : Flaw) (e : ElemError) → Along start bytes place rest s → IsFlawOf APiece f rest →
+    (inside : List ℕ) × (rest ≡ 60 ∷ inside) → TellsFlaw f place rest e → RefusesFrom start bytes e
+along_flaw start bytes place rest s Cut e a h i t =
+    let P : ElemError → Type 0 = λ x. RefusesFrom start bytes x in
+    subst P (sym t) (record {
+      ps = a.ps;
+      at = place;
+      rest = rest;
+      reads = a.reads;
+      fits = fits_so_far a.ps a.allowed;
+      shallow = a.shallow;
+      fails = cut (begun_by 60 [] i.0 rest i.1) (is_cut place rest i.0 i.1 h.0 h.1 h.2);
+    })
+along_flaw start bytes place rest s Bad e a h i t =
+    let P : ElemError → Type 0 = λ x. RefusesFrom start bytes x in
+    subst P (sym t) (record {
+      ps = a.ps;
+      at = place;
+      rest = rest;
+      reads = a.reads;
+      fits = fits_so_far a.ps a.allowed;
+      shallow = a.shallow;
+      fails = unread (begun_by 60 [] i.0 rest i.1) (λ more p r l. h more r (place, p, l));
+    })
+along_flaw start bytes place rest s no_memory e a h i t = let P : ElemError → Type 0 = λ x. RefusesFrom start bytes x in subst P (sym t) tt
+
+-- where a piece may not stand
+pub along_refused : (start : Place) (bytes : List ℕ) (place : Place) (rest : List ℕ) (s : Stack) (p : Piece) (behind : List ℕ) (r : Refusal) (e : ElemError) → Along start bytes place rest s →
+    IsLex place rest p behind → (r ≡ not_allowed → IsAllowed s p → ⊥) → (r ≡ deeper → IsTooDeepFor s p) → TellsRefusal r place e → RefusesFrom start bytes e
+along_refused start bytes place rest s p behind not_allowed e a l n d t =
+    let P : ElemError → Type 0 = λ x. RefusesFrom start bytes x in
+    let Q : Stack → Type 0 = λ x. IsAllowed x p in
+    subst P (sym t) (record {
+      ps = a.ps;
+      at = place;
+      rest = rest;
+      reads = a.reads;
+      fits = fits_so_far a.ps a.allowed;
+      shallow = a.shallow;
+      fails = wrong p behind l (stuck a.ps p (λ h. n refl (subst Q a.to h)));
+    })
+along_refused start bytes place rest s p behind deeper e a l n d t =
+    let P : ElemError → Type 0 = λ x. RefusesFrom start bytes x in
+    let Q : Stack → Type 0 = λ x. IsTooDeepFor x p in
+    let deep : IsTooDeepFor (after outside a.ps) p = subst Q (sym a.to) (d refl) in
+    subst P (sym t) (record {
+      ps = a.ps;
+      at = place;
+      rest = rest;
+      piece = p;
+      behind = behind;
+      reads = a.reads;
+      lex = l;
+      shallow = a.shallow;
+      fits = fits_so_far (a.ps ++ p ∷ []) (allowed_push outside a.ps p a.allowed (allowed_deep (after outside a.ps) p deep));
+      deep = too_deep a.ps p deep;
+    })
+along_refused start bytes place rest s p behind memory_gone e a l n d t = let P : ElemError → Type 0 = λ x. RefusesFrom start bytes x in subst P (sym t) tt
+
+-- where the file ends too early
+pub along_short : (start : Place) (bytes : List ℕ) (place : Place) (rest : List ℕ) (s : Stack) → Along start bytes place rest s → rest ≡ [] → IsUnfinished s → BreaksFrom start bytes place
+along_short start bytes place rest s a n u =
+    let Q : Stack → Type 0 = λ x. IsUnfinished x in
+    record {
+      ps = a.ps;
+      at = place;
+      rest = rest;
+      reads = a.reads;
+      fits = fits_so_far a.ps a.allowed;
+      shallow = a.shallow;
+      fails = short n (λ e d. unfinished a.ps e (subst Q (sym a.to) u) d);
+    }

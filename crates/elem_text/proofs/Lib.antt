@@ -7,3 +7,14 @@ pub mod Comments
 pub mod Frames
 pub mod Stacks
 pub mod Along
+pub mod Classes
+pub mod Flawed
+pub mod TagFlaws
+pub mod PieceFlaws
+pub mod Complete
+pub mod OneLex
+pub mod OneAnswer
+pub mod Depth
+pub mod Rows
+pub mod Escaped
+pub mod Written

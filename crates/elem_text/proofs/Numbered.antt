@@ -89,7 +89,7 @@ module _ (base : ℕ) (b f r : List ℕ) (s : IsSpan (is_digit_of base) b f r) w
       ap2 : {m n k l : ℕ} → m ≡ n → k ≡ l → same (record { char = m; len = past + k }) ≡ same (record { char = n; len = past + l })
       ap2 p q = cc
 
-ref1 : (b : List ℕ) → begins (codes "lt;") b ≡ true → reference b ≡ same (record { char = 60; len = 3 })
+pub ref1 : (b : List ℕ) → begins (codes "lt;") b ≡ true → reference b ≡ same (record { char = 60; len = 3 })
 unfolding reference
 ref1 b e = rw e refl
 
@@ -97,11 +97,11 @@ ref2 : (b : List ℕ) → begins (codes "lt;") b ≡ false → begins (codes "gt
 unfolding reference
 ref2 b e1 e2 = rw (e1, e2) refl
 
-ref3 : (b : List ℕ) → begins (codes "lt;") b ≡ false → begins (codes "gt;") b ≡ false → begins (codes "amp;") b ≡ true → reference b ≡ same (record { char = 38; len = 4 })
+pub ref3 : (b : List ℕ) → begins (codes "lt;") b ≡ false → begins (codes "gt;") b ≡ false → begins (codes "amp;") b ≡ true → reference b ≡ same (record { char = 38; len = 4 })
 unfolding reference
 ref3 b e1 e2 e3 = rw (e1, e2, e3) refl
 
-ref4 : (b : List ℕ) → begins (codes "lt;") b ≡ false → begins (codes "gt;") b ≡ false → begins (codes "amp;") b ≡ false → begins (codes "quot;") b ≡ true →
+pub ref4 : (b : List ℕ) → begins (codes "lt;") b ≡ false → begins (codes "gt;") b ≡ false → begins (codes "amp;") b ≡ false → begins (codes "quot;") b ≡ true →
     reference b ≡ same (record { char = 34; len = 5 })
 unfolding reference
 ref4 b e1 e2 e3 e4 = rw (e1, e2, e3, e4) refl

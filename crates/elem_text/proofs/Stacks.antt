@@ -22,7 +22,7 @@ pub joined_append : (rs ts : List (List ℕ)) → joined (rs ++ ts) ≡ joined r
 joined_append [] ts = refl
 joined_append (raw ∷ rs) ts = ap (λ l. decoded raw ++ l) (joined_append rs ts) ∙ sym (append_assoc (decoded raw) (joined rs) (joined ts))
 
-white_append : (rs ts : List (List ℕ)) → AreWhite rs → AreWhite ts → AreWhite (rs ++ ts)
+pub white_append : (rs ts : List (List ℕ)) → AreWhite rs → AreWhite ts → AreWhite (rs ++ ts)
 white_append [] ts a b = b
 white_append (raw ∷ rs) ts a b = (a.0, white_append rs ts a.1 b)
 
@@ -30,7 +30,7 @@ white_append (raw ∷ rs) ts a b = (a.0, white_append rs ts a.1 b)
 abbrev pub grown : Frame → List (List ℕ) → List Elem → Frame
 grown f runs kids = record f { text = f.text ++ joined runs; kids = f.kids ++ kids }
 
-grown_none : (f : Frame) → grown f [] [] ≡ f
+pub grown_none : (f : Frame) → grown f [] [] ≡ f
 grown_none f =
     let P : List ℕ → Type 0 = λ t. record f { text = t; kids = f.kids ++ [] } ≡ f in
     let Q : List Elem → Type 0 = λ k. record f { text = f.text; kids = k } ≡ f in

@@ -5,3 +5,7 @@ pub mod Grammar
 pub mod Lexed
 pub mod Next
 pub mod Stack
+pub mod Flaws
+pub mod Refusals
+pub mod Laws
+pub mod Written

@@ -92,3 +92,9 @@ abbrev pub IsTooDeepFor : Stack → Piece → Type 0
 IsTooDeepFor s (opens n a at) = HasRoom s.top s.below × (64 ≤ length s.below)
 IsTooDeepFor s (hollow n a at) = HasRoom s.top s.below × (64 ≤ length s.below)
 IsTooDeepFor s _ = ⊥
+
+-- an element may open here as far as the depth goes
+abbrev pub IsShallowFor : Stack → Piece → Type 0
+IsShallowFor s (opens n a at) = length s.below < 64
+IsShallowFor s (hollow n a at) = length s.below < 64
+IsShallowFor s _ = Unit {0}

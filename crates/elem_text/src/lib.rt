@@ -6,6 +6,7 @@
 mod bytes;
 mod elem;
 mod error;
+mod laws;
 mod lex;
 mod pieces;
 mod reader;
@@ -14,7 +15,10 @@ mod stack;
 mod tags;
 #[cfg(test)]
 mod tests;
+mod writer;
 
 pub use elem::{Attr, Elem};
 pub use error::ElemError;
+pub use laws::{law_of_the_writer, laws_of_the_grammar};
 pub use reader::read_elems;
+pub use writer::write_elem;

@@ -1,7 +1,8 @@
-ghost use Rattle.std.specs.Prelude.{◌≡◌, ◌∷◌, ◌<◌, ◌+◌, ◌&&◌, ◌==◌, ℕ, List, Bool, IfOk, IsUtf8, length, slice_index};
+ghost use Rattle.std.specs.Prelude.{◌≡◌, ◌∷◌, ◌<◌, ◌+◌, ◌&&◌, ◌==◌, ℕ, List, Bool, IfOk, IfErr, OnErr, IsUtf8, length, slice_index};
 ghost use Rattle.std.specs.Option.{option_map};
 ghost use Rattle.vtr_base.specs.declared.place.Place.{Place};
 ghost use Rattle.elem_text.specs.Grammar.{IsComment, IsInstruction, IsLex, behind_comment, behind_instruction};
+ghost use Rattle.elem_text.specs.Flaws.{IsFlawOf, AComment, AnInstruction, APiece};
 ghost use Rattle.elem_text.specs.Lexed.{lexed, IsUtf8Lex};
 
 use crate::bytes::{byte, until};
@@ -52,6 +53,7 @@ fn behind_instruction(bytes: &[u8]) -> Option<&[u8]>
 /// What follows the comment whose `<!` stands before `inside`.
 fn comment(inside: &[u8]) -> Result<&[u8], Flaw>
     ensures whole { IfOk result (λ rest. IsComment (60 ∷ 33 ∷ inside.now) rest.now) }
+    ensures flaw { IfErr result (λ f. IsFlawOf AComment f inside.now) }
 {
     let Some(first) = byte(inside, b'-') else {
         return Err(ended(inside));
@@ -68,6 +70,7 @@ fn comment(inside: &[u8]) -> Result<&[u8], Flaw>
 /// What follows the instruction whose `<?` stands before `inside`.
 fn instruction(inside: &[u8]) -> Result<&[u8], Flaw>
     ensures whole { IfOk result (λ rest. IsInstruction (60 ∷ 63 ∷ inside.now) rest.now) }
+    ensures flaw { IfErr result (λ f. IsFlawOf AnInstruction f inside.now) }
 {
     let Some(rest) = behind_instruction(inside) else {
         return Err(Flaw::Cut);
@@ -80,6 +83,7 @@ fn behind_angle(alloc: Global, inside: &[u8]) -> Result<(Lex<'_>, &[u8]), Flaw>
     requires { IsUtf8 inside.now }
     ensures whole { IfOk result (λ r. (at : Place) → IsLex at (60 ∷ inside.now) (lexed at r.0) r.1.now) }
     ensures utf8 { IfOk result (λ r. IsUtf8Lex r.0 × IsUtf8 r.1.now) }
+    ensures flaw { IfErr result (λ f. IsFlawOf APiece f (60 ∷ inside.now)) }
 {
     if let Some(rest) = byte(inside, b'/') {
         let (name, rest) = end_tag(rest)?;
@@ -102,6 +106,8 @@ pub fn piece(alloc: Global, bytes: &[u8]) -> Result<(Lex<'_>, &[u8]), Flaw>
     requires text { IsUtf8 bytes.now }
     ensures whole { IfOk result (λ r. (at : Place) → IsLex at bytes.now (lexed at r.0) r.1.now) }
     ensures utf8 { IfOk result (λ r. IsUtf8Lex r.0 × IsUtf8 r.1.now) }
+    ensures flaw { IfErr result (λ f. IsFlawOf APiece f bytes.now) }
+    ensures angle { OnErr result ((inside : List ℕ) × (bytes.now ≡ 60 ∷ inside)) }
 {
     if let Some(inside) = byte(bytes, b'<') {
         return behind_angle(alloc, inside);

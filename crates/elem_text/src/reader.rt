@@ -1,7 +1,8 @@
-ghost use Rattle.std.specs.Prelude.{◌≡◌, ◌∷◌, ◌++◌, ◌<◌, ℕ, List, true, false, IfOk, OnOk, IsErrOf, IsUtf8, MatchOption, length, drop};
+ghost use Rattle.std.specs.Prelude.{◌≡◌, ◌∷◌, ◌++◌, ◌<◌, ℕ, List, true, false, IfOk, IfErr, OnOk, IsErrOf, IsUtf8, MatchOption, length, drop};
 ghost use Rattle.elem_text.specs.Grammar.{IsFile, Spells, has_mark};
 ghost use Rattle.elem_text.specs.Lexed.{lexed, IsUtf8Lex};
-ghost use Rattle.elem_text.specs.Stack.{stack_of, IsAllowed, IsTooDeepFor, next};
+ghost use Rattle.elem_text.specs.Refusals.{IsTooDeep, DeepensFrom, Refuses, RefusesFrom, TellsFlaw, TellsRefusal};
+ghost use Rattle.elem_text.specs.Stack.{stack_of, IsAllowed, IsTooDeepFor, IsShallowFor, next};
 
 use crate::bytes::{byte, place_after};
 use crate::elem::Elem;
@@ -15,6 +16,8 @@ use vtr_base::Place;
 /// The root element of a file of element text.
 pub fn read_elems(alloc: Global, bytes: &[u8]) -> Result<Elem, ElemError>
     ensures found { IfOk result (λ e. Spells bytes.now e) }
+    ensures shallow { OnOk result (IsTooDeep bytes.now → ⊥) }
+    ensures refused { IfErr result (λ e. Refuses bytes.now e) }
 {
     let Ok(_) = str::from_utf8(bytes) else {
         return Err(ElemError::NotUtf8);
@@ -42,6 +45,8 @@ fn behind_mark(bytes: &[u8]) -> Option<&[u8]>
 fn read_body(alloc: Global, bytes: &[u8], start: Place) -> Result<Elem, ElemError>
     requires { IsUtf8 bytes.now }
     ensures found { IfOk result (λ e. IsFile start bytes.now e) }
+    ensures shallow { OnOk result (DeepensFrom start bytes.now → ⊥) }
+    ensures refused { IfErr result (λ e. RefusesFrom start bytes.now e) }
 {
     let mut opened = Opened::new(alloc);
     let mut rest = bytes;
@@ -64,7 +69,9 @@ fn read_body(alloc: Global, bytes: &[u8], start: Place) -> Result<Elem, ElemErro
 }
 
 /// The error for a piece that was not read.
-fn flawed(flaw: Flaw, place: Place, rest: &[u8]) -> ElemError {
+fn flawed(flaw: Flaw, place: Place, rest: &[u8]) -> ElemError
+    ensures { TellsFlaw flaw place rest.now result }
+{
     match flaw {
         Flaw::Cut => ElemError::Broken {
             place: place_after(place, rest),
@@ -75,7 +82,9 @@ fn flawed(flaw: Flaw, place: Place, rest: &[u8]) -> ElemError {
 }
 
 /// The error for a piece that may not stand at its place.
-fn refused(refusal: Refusal, place: Place) -> ElemError {
+fn refused(refusal: Refusal, place: Place) -> ElemError
+    ensures { TellsRefusal refusal place result }
+{
     match refusal {
         Refusal::Broken => ElemError::Broken { place },
         Refusal::Deep => ElemError::Deep,
@@ -96,6 +105,7 @@ fn take(opened: &mut Opened, alloc: Global, lex: Lex<'_>, place: Place) -> Resul
     requires { IsUtf8Lex lex }
     ensures ok { OnOk result (IsAllowed (stack_of opened.old) (lexed place lex.entry) × (stack_of opened.new ≡ next (stack_of opened.old) (lexed place lex.entry))) }
     ensures broken { IsErrOf result Refusal.Broken → IsAllowed (stack_of opened.old) (lexed place lex.entry) → ⊥ }
+    ensures shallow { OnOk result (IsShallowFor (stack_of opened.old) (lexed place lex.entry)) }
     ensures deep { IsErrOf result Refusal.Deep → IsTooDeepFor (stack_of opened.old) (lexed place lex.entry) }
 {
     match lex {

@@ -97,6 +97,7 @@ impl Opened {
     ) -> Result<(), Refusal>
         requires { IsUtf8 name.now }
         ensures ok { OnOk result (IsAllowed (stack_of self.old) (opens name.now attrs place) × (stack_of self.new ≡ next (stack_of self.old) (opens name.now attrs place))) }
+        ensures shallow { OnOk result (length (stack_of self.old).below < 64) }
         ensures broken { IsErrOf result Refusal.Broken → IsAllowed (stack_of self.old) (opens name.now attrs place) → ⊥ }
         ensures deep { IsErrOf result Refusal.Deep → IsAllowed (stack_of self.old) (opens name.now attrs place) × (64 ≤ length (stack_of self.old).below) }
     {
@@ -128,6 +129,7 @@ impl Opened {
     ) -> Result<(), Refusal>
         requires { IsUtf8 name.now }
         ensures ok { OnOk result (IsAllowed (stack_of self.old) (hollow name.now attrs place) × (stack_of self.new ≡ next (stack_of self.old) (hollow name.now attrs place))) }
+        ensures shallow { OnOk result (length (stack_of self.old).below < 64) }
         ensures broken { IsErrOf result Refusal.Broken → IsAllowed (stack_of self.old) (hollow name.now attrs place) → ⊥ }
         ensures deep { IsErrOf result Refusal.Deep → IsAllowed (stack_of self.old) (hollow name.now attrs place) × (64 ≤ length (stack_of self.old).below) }
     {

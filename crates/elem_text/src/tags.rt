@@ -1,9 +1,10 @@
-ghost use Rattle.std.specs.Prelude.{◌≡◌, ◌∷◌, [], ◌<◌, ◌⊎◌, ℕ, List, Some, None, Bool, IfOk, IfSome, IsTrue, ◌↔◌, MatchOption, IsUtf8, length};
+ghost use Rattle.std.specs.Prelude.{◌≡◌, ◌∷◌, [], ◌<◌, ◌⊎◌, ℕ, List, Some, None, Bool, IfOk, IfErr, IfSome, IfNone, IsTrue, false, ◌↔◌, MatchOption, IsUtf8, length};
 ghost use Rattle.vtr_base.specs.declared.place.Place.{Place};
 ghost use Rattle.elem_text.specs.Bytes.{is_white, IsSpan, IsNamed};
 ghost use Rattle.elem_text.specs.References.{decoded};
 ghost use Rattle.elem_text.specs.Grammar.{HasName, IsQuote, IsQuoted, IsAttr, Attributes, tail_of, IsStartTag, IsEndTag, IsLex};
 ghost use Rattle.elem_text.specs.Lexed.{lexed, IsUtf8Lex};
+ghost use Rattle.elem_text.specs.Flaws.{IsFlawOf, IsEnded, ANamed, AQuote, AQuoted, ASign, AnAttr, ATagRest, AStartTag, AnEndTag, IsSlash, NoTail};
 ghost use Rattle.elem_text.specs.Next.{IsNext, behind_next};
 
 use crate::bytes::{begins_with_letter, byte, until, white, word};
@@ -15,7 +16,9 @@ use std::alloc::{AllocError, Global};
 use vtr_base::Text;
 
 /// Which flaw it is that a byte is missing before `bytes`.
-pub fn ended(bytes: &[u8]) -> Flaw {
+pub fn ended(bytes: &[u8]) -> Flaw
+    ensures { IsEnded result bytes.now }
+{
     if bytes.is_empty() {
         Flaw::Cut
     } else {
@@ -26,6 +29,7 @@ pub fn ended(bytes: &[u8]) -> Flaw {
 /// The name at the front, and the rest.
 fn name(bytes: &[u8]) -> Result<(&[u8], &[u8]), Flaw>
     ensures whole { IfOk result (λ r. IsNamed bytes.now r.0.now r.1.now) }
+    ensures flaw { IfErr result (λ f. IsFlawOf ANamed f bytes.now) }
 {
     if !begins_with_letter(bytes) {
         return Err(ended(bytes));
@@ -36,6 +40,7 @@ fn name(bytes: &[u8]) -> Result<(&[u8], &[u8]), Flaw>
 /// The quote at the front, and the rest.
 fn quote(bytes: &[u8]) -> Result<(u8, &[u8]), Flaw>
     ensures whole { IfOk result (λ r. (bytes.now ≡ r.0 ∷ r.1.now) × IsQuote r.0) }
+    ensures flaw { IfErr result (λ f. IsFlawOf AQuote f bytes.now) }
 {
     if let Some(rest) = byte(bytes, b'"') {
         return Ok((b'"', rest));
@@ -49,6 +54,7 @@ fn quote(bytes: &[u8]) -> Result<(u8, &[u8]), Flaw>
 /// What stands between the quotes at the front, and the rest.
 fn quoted(bytes: &[u8]) -> Result<(&[u8], &[u8]), Flaw>
     ensures whole { IfOk result (λ r. IsQuoted bytes.now r.0.now r.1.now) }
+    ensures flaw { IfErr result (λ f. IsFlawOf AQuoted f bytes.now) }
 {
     let (mark, rest) = quote(bytes)?;
     let (raw, rest) = until(rest, mark);
@@ -60,7 +66,9 @@ fn quoted(bytes: &[u8]) -> Result<(&[u8], &[u8]), Flaw>
 
 /// What follows `b`, before which white space may stand.
 fn sign(bytes: &[u8], b: u8) -> Result<&[u8], Flaw>
+    requires { is_white b ≡ false }
     ensures whole { IfOk result (λ rest. (gap : List ℕ) × IsSpan is_white bytes.now gap (b ∷ rest.now)) }
+    ensures flaw { IfErr result (λ f. IsFlawOf (ASign b) f bytes.now) }
 {
     let (_, rest) = white(bytes);
     let Some(after) = byte(rest, b) else {
@@ -81,6 +89,7 @@ struct RawAttr<'a> {
 fn attr<'a>(bytes: &'a [u8], before: &[Attr]) -> Result<RawAttr<'a>, Flaw>
     ensures whole { IfOk result (λ r. IsAttr bytes.now r.name.now r.raw.now r.after.now) }
     ensures own { IfOk result (λ r. HasName before.now r.name.now → ⊥) }
+    ensures flaw { IfErr result (λ f. IsFlawOf (AnAttr before.now) f bytes.now) }
 {
     let (name, rest) = name(bytes)?;
     if rest.is_empty() {
@@ -117,6 +126,8 @@ pub struct TagEnd<'a> {
 /// The end of a tag, where one stands here.
 fn tag_end(bytes: &[u8]) -> Result<Option<TagEnd<'_>>, Flaw>
     ensures whole { IfOk result (λ t. IfSome t (λ end. bytes.now ≡ tail_of end.empty end.rest.now)) }
+    ensures none { IfOk result (λ t. IfNone t (NoTail bytes.now)) }
+    ensures flaw { IfErr result (λ f. IsSlash f bytes.now) }
 {
     if let Some(rest) = byte(bytes, b'>') {
         return Ok(Some(TagEnd { empty: false, rest }));
@@ -142,6 +153,7 @@ fn next_in_tag<'a>(alloc: Global, bytes: &'a [u8], before: &[Attr]) -> Result<Ne
     requires { IsUtf8 bytes.now }
     ensures whole { IfOk result (λ n. IsNext before.now bytes.now n) }
     ensures utf8 { IfOk result (λ n. IsUtf8 (behind_next n)) }
+    ensures flaw { IfErr result (λ f. IsFlawOf (ATagRest before.now) f bytes.now) }
 {
     let (gap, rest) = white(bytes);
     if let Some(end) = tag_end(rest)? {
@@ -168,6 +180,7 @@ fn tag_rest(alloc: Global, bytes: &[u8]) -> Result<TagRest<'_>, Flaw>
     requires { IsUtf8 bytes.now }
     ensures whole { IfOk result (λ r. Attributes [] bytes.now r.attrs (tail_of r.end.empty r.end.rest.now)) }
     ensures utf8 { IfOk result (λ r. IsUtf8 r.end.rest.now) }
+    ensures flaw { IfErr result (λ f. IsFlawOf (ATagRest []) f bytes.now) }
 {
     let mut attrs = Items::new(alloc);
     let mut left = bytes;
@@ -187,6 +200,7 @@ pub fn start_tag(alloc: Global, inside: &[u8]) -> Result<(Lex<'_>, &[u8]), Flaw>
     requires { IsUtf8 inside.now }
     ensures whole { IfOk result (λ r. (at : Place) → IsLex at (60 ∷ inside.now) (lexed at r.0) r.1.now) }
     ensures utf8 { IfOk result (λ r. IsUtf8Lex r.0 × IsUtf8 r.1.now) }
+    ensures flaw { IfErr result (λ f. IsFlawOf AStartTag f inside.now) }
 {
     let (name, rest) = name(inside)?;
     let TagRest { attrs, end } = tag_rest(alloc, rest)?;
@@ -199,6 +213,7 @@ pub fn start_tag(alloc: Global, inside: &[u8]) -> Result<(Lex<'_>, &[u8]), Flaw>
 /// The end tag whose `</` stands before `inside`, and what follows it.
 pub fn end_tag(inside: &[u8]) -> Result<(&[u8], &[u8]), Flaw>
     ensures whole { IfOk result (λ r. IsEndTag (60 ∷ 47 ∷ inside.now) r.0.now r.1.now) }
+    ensures flaw { IfErr result (λ f. IsFlawOf AnEndTag f inside.now) }
 {
     let (name, rest) = name(inside)?;
     let rest = sign(rest, b'>')?;

@@ -1,6 +1,7 @@
-use Rattle.std.proofs.Common.{◌≡◌, ◌<◌, ap, sym, ◌∙◌, arith, length, length-append}
+use Rattle.std.proofs.Common.{Err, ◌≡◌, ◌<◌, ap, sym, ◌∙◌, arith, length, length-append}
 use Rattle.elem_text.proofs.Spans.{nothing_in}
-use Rattle.elem_text.proofs.Along.{lex_front, along_next, along_found}
+use Rattle.elem_text.proofs.Along.{lex_front, along_next, along_found, along_flaw, along_refused, along_short}
+use Rattle.elem_text.proofs.Depth.{along_shallow}
 use Rattle.elem_text.proofs.reader.read_body.Goals as goal
 
 pub front_of-requires : goal.front_of-requires
@@ -16,11 +17,27 @@ loop-rest-smaller c =
 pub loop-rest-preserved : goal.loop-rest-preserved
 loop-rest-preserved c = record {
   along = along_next _ _ _ _ _ _ _ _ _ _ c.loop-rest.invariant.along (c.in-Ok.ensures.whole c.loop-rest.place) c.front_of.ensures
-      c.place_after-place.ensures c.in_default.ensures.ok.0 c.in_default.ensures.ok.1;
+      c.place_after-place.ensures c.in_default.ensures.ok.0 c.in_default.ensures.shallow c.in_default.ensures.ok.1;
   utf8 = c.in-Ok.ensures.utf8.1;
 }
 
-pub returns-in-Some : goal.returns-in-Some
-returns-in-Some c = record {
-  found = along_found _ _ _ _ _ _ c.loop-rest.invariant.along (nothing_in _ (sym c.is_empty.ensures ∙ c.loop-rest-test.false)) c.in-Some.ensures;
-}
+pub returns-in-Some-clause-found : goal.returns-in-Some-clause-found
+returns-in-Some-clause-found c =
+    along_found _ _ _ _ _ _ c.loop-rest.invariant.along (nothing_in _ (sym c.is_empty.ensures ∙ c.loop-rest-test.false)) c.in-Some.ensures
+
+pub returns-in-Err-clause-refused : goal.returns-in-Err-clause-refused
+returns-in-Err-clause-refused c =
+    along_flaw _ _ _ _ _ _ _ c.loop-rest.invariant.along c.in-Err.ensures.flaw c.in-Err.ensures.angle c.flawed.ensures
+
+pub returns-in-Err-take-clause-refused : goal.returns-in-Err-take-clause-refused
+returns-in-Err-take-clause-refused c =
+    along_refused _ _ _ _ _ _ _ _ _ c.loop-rest.invariant.along (c.in-Ok.ensures.whole c.loop-rest.place)
+    (λ e. c.in-Err-take.ensures.broken (ap Err e)) (λ e. c.in-Err-take.ensures.deep (ap Err e)) c.refused.ensures
+
+pub returns-in-None-clause-refused : goal.returns-in-None-clause-refused
+returns-in-None-clause-refused c =
+    along_short _ _ _ _ _ c.loop-rest.invariant.along (nothing_in _ (sym c.is_empty.ensures ∙ c.loop-rest-test.false)) c.in-None.ensures
+
+pub returns-in-Some-clause-shallow : goal.returns-in-Some-clause-shallow
+returns-in-Some-clause-shallow c =
+    along_shallow _ _ _ _ _ c.loop-rest.invariant.along (nothing_in _ (sym c.is_empty.ensures ∙ c.loop-rest-test.false))

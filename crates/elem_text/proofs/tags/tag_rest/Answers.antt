@@ -1,3 +1,5 @@
+use Rattle.std.proofs.lemmas.Result.{err_from_is_err_and}
+use Rattle.elem_text.proofs.TagFlaws.{tag_by_next}
 use Rattle.elem_text.proofs.Attrs.{reading_more, reading_end}
 use Rattle.elem_text.proofs.tags.tag_rest.Goals as goal
 
@@ -11,3 +13,7 @@ attrs-preserved c = record {
       (reading_more _ _ _ _ _ c.in-Attr.attr c.in-Attr.after c.attrs.invariant.reading c.as_slice.ensures c.in-Attr.is c.in_ok-end.ensures.whole);
   utf8 = rw c.in-Attr.is at c.in_ok-end.ensures.utf8;
 }
+
+pub returns-in_err-end-clause-flaw : goal.returns-in_err-end-clause-flaw
+returns-in_err-end-clause-flaw c =
+    let p = err_from_is_err_and c.from_residual.result c.from_residual.ensures.1 in rw (p.1, p.2) (tag_by_next _ _ _ _ c.attrs.invariant.reading c.as_slice.ensures _ c.in_err-end.ensures.flaw)

@@ -13,3 +13,6 @@ returns-clause-ok c = (
       (frame_is c.in_ok-kept.field-0 c.args.name.now c.args.attrs c.new.result c.new-2.result c.args.place _ c.replace-outer.ensures.after c.in_ok-kept.ensures c.new.ensures c.new-2.ensures)
       c.replace-outer.ensures.value c.in_ok-push.ensures.ok,
 )
+
+pub returns-clause-shallow : goal.returns-clause-shallow
+returns-clause-shallow c = omega (arith, length-top_first c.args.self.now.below, c.len.ensures, c.if-len-ge-DEEPEST.false)
