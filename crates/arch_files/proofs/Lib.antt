@@ -6,3 +6,5 @@ pub mod Unique
 pub mod Failed
 pub mod Parted
 pub mod Says
+pub mod Depth
+pub mod Files

@@ -1,4 +1,5 @@
 ghost use Rattle.std.specs.Prelude.{◌≡◌};
+ghost use Rattle.arch_files.specs.Exact.{told_by};
 ghost use Rattle.arch_files.specs.declared.error.ArchError.TheVariants.{OutOfMemory};
 
 use elem_text::ElemError;
@@ -33,6 +34,8 @@ impl<T: Drop> From<AllocFailed<T>> for ArchError {
 
 /// A file that is no element, or an element too deep, is of no form that is read.
 impl From<ElemError> for ArchError {
+    ghost from_gives = { λ e told. told ≡ told_by e };
+
     fn from(e: ElemError) -> ArchError {
         match e {
             ElemError::NotUtf8 | ElemError::Deep | ElemError::Broken { .. } => ArchError::NotBuilt,

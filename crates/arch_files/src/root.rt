@@ -1,4 +1,4 @@
-ghost use Rattle.std.specs.Prelude.{[], ◌∷◌, IfOk, IsErrOf, MatchOption};
+ghost use Rattle.std.specs.Prelude.{[], ◌∷◌, MatchOption};
 ghost use Rattle.arch_files.specs.Exact.{Answers};
 ghost use Rattle.arch_files.specs.FirstForm.{Holds, HoldsNotOne, SaysArch, SpellsArch};
 
@@ -42,9 +42,10 @@ pub fn arch_of(alloc: Global, root: &Elem) -> Result<Arch, ArchError>
     })
 }
 
-/// Reads an architecture file.
+/// Reads an architecture file. The answer is `NotBuilt` exactly where the bytes are no element text
+/// with an architecture of the first form.
 pub fn read_arch(alloc: Global, bytes: &[u8]) -> Result<Arch, ArchError>
-    ensures { IfOk result (λ a. SpellsArch bytes.now a) }
+    ensures { Answers result (λ a. SpellsArch bytes.now a) }
 {
     let root = read_elems(alloc, bytes)?;
     arch_of(alloc, &root)
