@@ -39,7 +39,7 @@ climb_up g c s n law to chosen above = record {
   live =
       let same : above.address ≡ to.parent = some_injective (sym above.is ∙ to.is_parent) in
       live_up g c [] to.parent (hop_of s) (subst (λ a. IsLive g c a) same above.live)
-        (record { number = s.parent.0; is = to.is_parent; chosen = chosen });
+      (record { number = s.parent.0; is = to.is_parent; chosen = chosen });
 }
 
 pub climb_chosen : (g : Graph) (c : Choices) (s : Step) (n : ℕ) → IsExpansion g → LeadsTo g.instances s n → IsLiveAt g c n →

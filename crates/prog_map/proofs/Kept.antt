@@ -31,7 +31,7 @@ mode_kept g c pb mode of there = record {
     by_test : (q m : ℕ) (b : Bool) → eq_by_cmp nat_cmp q pb ≡ b → cond b (Some mode) (mode_of c q) ≡ Some m → IsModeOf g q m
     by_test q m true same is =
         subst (λ k. IsModeOf g k m) (sym (same_key nat_cmp nat_cmp-IsAntisymmetric q pb same))
-          (subst (λ k. IsModeOf g pb k) (some_injective is) there)
+        (subst (λ k. IsModeOf g pb k) (some_injective is) there)
     by_test q m false other is = of.modes q m is
 
 pub pick_kept : (g : Graph) (c : Choices) (pin mode number : ℕ) → IsProgOf g c → IsEdgeInto g pin mode number → IsProgOf g (with_pick c pin mode number)
@@ -44,7 +44,7 @@ pick_kept g c pin mode number of there = record {
     by_test p m n true same is =
         let key : ◌≡◌ {A = ℕ × ℕ} (p, m) (pin, mode) = same_key site_cmp sites_apart (p, m) (pin, mode) same in
         subst (λ k. IsEdgeInto g p m k) (some_injective is)
-          (subst (λ (k : ℕ × ℕ). IsEdgeInto g k.0 k.1 number) (sym key) there)
+        (subst (λ (k : ℕ × ℕ). IsEdgeInto g k.0 k.1 number) (sym key) there)
     by_test p m n false other is = of.picks p m n is
 
 pub named_there : (g : Graph) (pb : ℕ) (text : List ℕ) (mode : ℕ) → NamesMode g pb text mode → IsModeOf g pb mode

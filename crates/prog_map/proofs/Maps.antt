@@ -30,10 +30,10 @@ module _ {K X : Type 0} {R : K → K → Ordering} (o : IsTotalOrder R) where
       map.from_entries {R = R} n.entries ≡ map.insert (map.from_entries m.entries) k v
   set_at same m n k v updates =
       same_map o same _ _ (λ q.
-        looked_up n q ∙ updates q
-        ∙ ap (λ b. cond b (Some v) (tree.get R m q)) ((eq_by_cmp_equiv o).symm k q)
-        ∙ ap (cond (eq_by_cmp R q k) (Some v)) (sym (looked_up m q))
-        ∙ sym (get-insert o (map.from_entries m.entries) k v q))
+      looked_up n q ∙ updates q
+      ∙ ap (λ b. cond b (Some v) (tree.get R m q)) ((eq_by_cmp_equiv o).symm k q)
+      ∙ ap (cond (eq_by_cmp R q k) (Some v)) (sym (looked_up m q))
+      ∙ sym (get-insert o (map.from_entries m.entries) k v q))
 
 pub sites_total : IsTotalOrder site_cmp
 sites_total = then_total (on_total (λ (x : ℕ × ℕ). x.0) nat_cmp_total) (on_total (λ (x : ℕ × ℕ). x.1) nat_cmp_total)

@@ -44,7 +44,7 @@ owner_of_end g law number edge there at is_at =
     let same : pin_at e.is_dst.pb e.dst.port e.dst.bit ≡ at = some_injective (sym e.is_dst.is_pin ∙ is_at) in
     let pb : e.is_dst.pb ≡ at.pb.0 = ap (λ p. p.pb.0) same in
     by_owner g law edge.owner.0 at.pb.0 e.address edge.mode e.dst.owner e.is_owner
-      (subst (λ n. slice_get g.instances n ≡ Some (owner_address e.address edge.mode e.dst.owner)) pb e.is_dst.is_instance)
+    (subst (λ n. slice_get g.instances n ≡ Some (owner_address e.address edge.mode e.dst.owner)) pb e.is_dst.is_instance)
 
 nil_snoc : {X : Type 0} (xs : List X) (x : X) → xs ++ x ∷ [] ≡ [] → ⊥
 nil_snoc [] x e = cc
@@ -54,7 +54,7 @@ nil_snoc (y ∷ ys) x e = cc
 pub root_alone : (g : Graph) (owner n : ℕ) → IsExpansion g → n ≡ 0 → IsAbove g owner n → ⊥
 root_alone g owner n law zero above =
     let root : slice_get g.instances n ≡ Some [] =
-      ap (λ k. slice_get g.instances k) zero ∙ ap (λ is. slice_get is 0) law.instances in
+    ap (λ k. slice_get g.instances k) zero ∙ ap (λ is. slice_get is 0) law.instances in
     nil_snoc above.address above.hop (some_injective (sym above.is_child ∙ root))
 
 -- an instance has one parent
@@ -109,5 +109,5 @@ pub by_parent : (g : Graph) (c : Choices) → IsExpansion g → (pin : ℕ) (at 
     MatchOption r ((p : ℕ) → StepsBack g c pin p → ⊥) (λ p. StepsBack g c pin p.0)
 by_parent g c law pin at s is_at to own None none =
     no_step g c law pin at is_at own
-      (λ owner p up step. none p (subst (λ o. StepsBackIn g c o pin p) (parent_is g owner at.pb.0 s law to up) step))
+    (λ owner p up step. none p (subst (λ o. StepsBackIn g c o pin p) (parent_is g owner at.pb.0 s law to up) step))
 by_parent g c law pin at s is_at to own (Some source) step = record { owner = s.parent.0; step = step }

@@ -44,7 +44,7 @@ pub mode_there : (g : Graph) (s : Step) (n : ℕ) → IsExpansion g → LeadsTo 
 mode_there g s n law to =
     let d = down g s n law to in
     let is : mode_at g s.parent.0 s.mode ≡ Some d.takes.mode =
-      mode_is g s.parent.0 s.mode d.parent (modes_of d.parent.kind) d.is_parent refl ∙ d.takes.is_mode in
+    mode_is g s.parent.0 s.mode d.parent (modes_of d.parent.kind) d.is_parent refl ∙ d.takes.is_mode in
     subst (λ o. IsSome o) (sym is) refl
 
 -- one step more is written behind the others
@@ -60,11 +60,11 @@ steps_more root (h ∷ front) hop block kid is_block is_kid =
     through (λ k is. steps_more k front hop block kid is is_kid) (child_at root h) is_block
   where
     through : ((k : PbType) → at k front ≡ Some block →
-          steps_text k (front ++ hop ∷ []) ≡ steps_text k front ++ step_text (mode_text block hop.mode) kid.name hop.instance) →
+        steps_text k (front ++ hop ∷ []) ≡ steps_text k front ++ step_text (mode_text block hop.mode) kid.name hop.instance) →
         (o : Option PbType) → option_and_then (λ (k : PbType). at k front) o ≡ Some block →
         option_map_or (λ (k : PbType). step_text (mode_text root h.mode) k.name h.instance ++ steps_text k (front ++ hop ∷ [])) o []
         ≡ option_map_or (λ (k : PbType). step_text (mode_text root h.mode) k.name h.instance ++ steps_text k front) o []
-          ++ step_text (mode_text block hop.mode) kid.name hop.instance
+        ++ step_text (mode_text block hop.mode) kid.name hop.instance
     through rest None is = cc
     through rest (Some k) is =
         ap (λ t. step_text (mode_text root h.mode) k.name h.instance ++ t) (rest k is)
@@ -78,9 +78,9 @@ instance_is g s n mode child law to is_mode is_child =
     let written : Option Address → List ℕ = λ o. option_map_or (λ (a : Address). g.root.name ++ steps_text g.root a) o [] in
     let at_parent : at g.root to.parent ≡ Some d.parent = sym (ap (option_and_then (λ (a : Address). at g.root a)) to.is_parent) ∙ d.is_parent in
     let named : mode_at g s.parent.0 s.mode ≡ Some d.takes.mode =
-      mode_is g s.parent.0 s.mode d.parent (modes_of d.parent.kind) d.is_parent refl ∙ d.takes.is_mode in
+    mode_is g s.parent.0 s.mode d.parent (modes_of d.parent.kind) d.is_parent refl ∙ d.takes.is_mode in
     let mode_same : mode_text d.parent s.mode ≡ mode =
-      ap (λ o. option_map_or name_of_mode o []) d.takes.is_mode ∙ some_injective (sym (ap (option_map name_of_mode) named) ∙ is_mode) in
+    ap (λ o. option_map_or name_of_mode o []) d.takes.is_mode ∙ some_injective (sym (ap (option_map name_of_mode) named) ∙ is_mode) in
     let child_same : d.takes.kid.name ≡ child = some_injective (sym (ap (option_map (λ (b : PbType). b.name)) d.is_kid) ∙ is_child) in
     ap written to.is_child
     ∙ ap (λ t. g.root.name ++ t) (steps_more g.root to.parent (hop_of s) d.parent d.takes.kid at_parent d.takes.is)
@@ -94,7 +94,7 @@ pub port_there : (g : Graph) (n : ℕ) (pin : PinAt) → IsExpansion g → slice
 port_there g n pin law is_at =
     let is : IsPin g pin.pb.0 pin.port pin.bit = (law.has_pins.exact pin.pb.0 pin.port pin.bit).0 (has_at g.pins n pin is_at) in
     by_block (at g.root is.address) is.is
-      (ap (option_and_then (λ (a : Address). at g.root a)) is.is_instance) is.is_port
+    (ap (option_and_then (λ (a : Address). at g.root a)) is.is_instance) is.is_port
   where
     by_block : (o : Option PbType) (port : Port) → block_at g pin.pb.0 ≡ o →
         slice_get (option_map_or (λ (block : PbType). block.ports) o []) pin.port ≡ Some port → IsSome (port_at g pin)
@@ -121,7 +121,7 @@ pub port_named : (g : Graph) (pin : PinAt) (ports : List Port) (port : Port) →
     IsSome (port_at g pin) → port ≡ get_or ports pin.port port → port_text g pin ≡ port.name
 port_named g pin ports port is there read =
     ap (λ o. option_map_or (λ (p : Port). p.name) o [])
-      (port_read g pin ports is ∙ slice_get-get_or ports pin.port port (port_inside g pin ports is there) ∙ ap Some (sym read))
+    (port_read g pin ports is ∙ slice_get-get_or ports pin.port port (port_inside g pin ports is there) ∙ ap Some (sym read))
 
 -- the mode of an edge is there
 pub edge_mode_there : (g : Graph) (number : ℕ) (edge : Edge) → IsExpansion g → slice_get g.edges number ≡ Some edge →
@@ -130,5 +130,5 @@ edge_mode_there g number edge law there =
     let e : IsEdgeOf g edge = law.has_edges.each edge (has_at g.edges number edge there) in
     let is_block : block_at g edge.owner.0 ≡ Some e.block = ap (option_and_then (λ (a : Address). at g.root a)) e.is_owner ∙ e.is_block in
     let is : mode_at g edge.owner.0 edge.mode ≡ Some e.mode =
-      mode_is g edge.owner.0 edge.mode e.block (modes_of e.block.kind) is_block refl ∙ e.is_mode in
+    mode_is g edge.owner.0 edge.mode e.block (modes_of e.block.kind) is_block refl ∙ e.is_mode in
     subst (λ o. IsSome o) (sym is) refl

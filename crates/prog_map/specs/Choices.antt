@@ -24,8 +24,8 @@ choices_at modes picks = record { modes = modes; picks = picks }
 abbrev pub choices_code : Coded Choices
 choices_code =
     code_by (map.FinMap nat_cmp ℕ × map.FinMap site_cmp ℕ)
-      (coded× (map.code coded_ℕ coded_ℕ) (map.code (coded× coded_ℕ coded_ℕ) coded_ℕ))
-      (λ c. (c.modes, c.picks)) (λ p. record { modes = p.0; picks = p.1 }) (λ _. refl)
+    (coded× (map.code coded_ℕ coded_ℕ) (map.code (coded× coded_ℕ coded_ℕ) coded_ℕ))
+    (λ c. (c.modes, c.picks)) (λ p. record { modes = p.0; picks = p.1 }) (λ _. refl)
 
 abbrev pub no_choices : Choices
 no_choices = record { modes = map.empty; picks = map.empty }

@@ -81,7 +81,11 @@ impl Finder {
             return Ok(());
         };
         let port = self.number(alloc, port.name.as_bytes())?;
-        let named = NamedPin { pb: pb.0, port, bit };
+        let named = NamedPin {
+            pb: pb.0,
+            port,
+            bit,
+        };
         self.pins.insert(named, pin.0)?;
         Ok(())
     }
@@ -97,7 +101,12 @@ impl Finder {
     }
 
     /// The instance that is written so.
-    pub fn instance(&self, alloc: Global, graph: &PbGraph, text: &[u8]) -> Result<Option<PbIx>, AllocError>
+    pub fn instance(
+        &self,
+        alloc: Global,
+        graph: &PbGraph,
+        text: &[u8],
+    ) -> Result<Option<PbIx>, AllocError>
         ensures { IfOk result (λ found. IfSome found (λ pb. NamesInstance graph.now text.now pb.0)) }
     {
         let Some(pb) = self.at_instance(text) else {
@@ -115,7 +124,12 @@ impl Finder {
     }
 
     /// The pin that is written so.
-    pub fn pin(&self, alloc: Global, graph: &PbGraph, text: &[u8]) -> Result<Option<PinIx>, AllocError>
+    pub fn pin(
+        &self,
+        alloc: Global,
+        graph: &PbGraph,
+        text: &[u8],
+    ) -> Result<Option<PinIx>, AllocError>
         ensures { IfOk result (λ found. IfSome found (λ pin. NamesPin graph.now text.now pin.0)) }
     {
         let Some(pin) = self.at_pin(text) else {
@@ -202,7 +216,13 @@ pub fn find_edge(graph: &PbGraph, pin: PinIx, mode: &[u8], source: PinIx) -> Opt
 }
 
 /// The same among the edges into the pin in the mode of that number.
-fn find_in_mode(graph: &PbGraph, pin: PinIx, number: u32, mode: &[u8], source: PinIx) -> Option<EdgeIx>
+fn find_in_mode(
+    graph: &PbGraph,
+    pin: PinIx,
+    number: u32,
+    mode: &[u8],
+    source: PinIx,
+) -> Option<EdgeIx>
     requires { pin.0 < length graph.now.pins }
     ensures { IfSome result (λ edge. IsNamedEdge graph.now edge.0 pin.0 mode.now source.0) }
 {

@@ -58,7 +58,13 @@ pub fn read_prog(alloc: Global, bytes: &[u8], graph: &PbGraph) -> Result<Prog, P
 }
 
 /// Reads one line into the programming.
-fn read_line(alloc: Global, line: &[u8], graph: &PbGraph, finder: &Finder, prog: &mut Prog) -> Result<(), ProgError>
+fn read_line(
+    alloc: Global,
+    line: &[u8],
+    graph: &PbGraph,
+    finder: &Finder,
+    prog: &mut Prog,
+) -> Result<(), ProgError>
     requires { IsProgOf graph.now prog.old }
     ensures of { OnOk result (IsProgOf graph.now prog.new) }
     ensures reads { OnOk result (ReadsLine graph.now line.now prog.old prog.new) }
@@ -86,7 +92,13 @@ fn is_word(bytes: &[u8], word: &[u8]) -> bool
 }
 
 /// Reads `INST MODE`.
-fn read_mode(alloc: Global, words: &[u8], graph: &PbGraph, finder: &Finder, prog: &mut Prog) -> Result<(), ProgError>
+fn read_mode(
+    alloc: Global,
+    words: &[u8],
+    graph: &PbGraph,
+    finder: &Finder,
+    prog: &mut Prog,
+) -> Result<(), ProgError>
     requires { IsProgOf graph.now prog.old }
     ensures of { OnOk result (IsProgOf graph.now prog.new) }
     ensures sets { OnOk result (SetsMode graph.now words.now prog.old prog.new) }
@@ -108,7 +120,13 @@ fn read_mode(alloc: Global, words: &[u8], graph: &PbGraph, finder: &Finder, prog
 }
 
 /// Reads `PIN MODE PIN`.
-fn read_pin(alloc: Global, words: &[u8], graph: &PbGraph, finder: &Finder, prog: &mut Prog) -> Result<(), ProgError>
+fn read_pin(
+    alloc: Global,
+    words: &[u8],
+    graph: &PbGraph,
+    finder: &Finder,
+    prog: &mut Prog,
+) -> Result<(), ProgError>
     requires { IsProgOf graph.now prog.old }
     ensures of { OnOk result (IsProgOf graph.now prog.new) }
     ensures sets { OnOk result (SetsPin graph.now words.now prog.old prog.new) }

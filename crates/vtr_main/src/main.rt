@@ -2,9 +2,8 @@
 #![tactic(auto)]
 
 use shelf_kit::{RealShelf, RealSink};
-use std::env;
-use std::io;
 use std::process::ExitCode;
+use std::{env, io};
 use vtr_top::run;
 
 fn main(rt: HostRuntime) -> io::Result<ExitCode> {

@@ -85,11 +85,11 @@ answering_line g c n text longer met marks inside is along line fresh long =
     let pin = element g.pins n inside in
     record {
       goes = λ rest are.
-        let whole : List ℕ = pin_name g n ++ 32 ∷ (line.answer ++ 10 ∷ rest) in
-        let these : AreAnswers g c (n ∷ leaf_inputs_from g (n + 1) (drop (n + 1) g.pins)) whole = (line.answer, rest, line.is, are, refl) in
-        let so_far : AreAnswers g c (leaf_inputs g) (text ++ whole) =
+          let whole : List ℕ = pin_name g n ++ 32 ∷ (line.answer ++ 10 ∷ rest) in
+          let these : AreAnswers g c (n ∷ leaf_inputs_from g (n + 1) (drop (n + 1) g.pins)) whole = (line.answer, rest, line.is, are, refl) in
+          let so_far : AreAnswers g c (leaf_inputs g) (text ++ whole) =
           along.goes whole (subst (λ pins. AreAnswers g c pins whole) (sym (inputs_at g n pin.0 true pin.1 is)) these) in
-        subst (λ t. AreAnswers g c (leaf_inputs g) t)
+          subst (λ t. AreAnswers g c (leaf_inputs g) t)
           (sym (ap (λ t. t ++ rest) line.got ∙ rejoined text (pin_name g n) line.answer rest)) so_far;
       fresh = fresh;
       room = long ∙ along.room;
@@ -99,4 +99,4 @@ pub answering_last : (g : Graph) (c : Choices) (n : ℕ) (text met : List ℕ) �
 answering_last g c n text met past along =
     let ended : drop n g.pins ≡ [] = drop_of_length-le g.pins past in
     subst (λ t. AreAnswers g c (leaf_inputs g) t) (append-nil text)
-      (along.goes [] (subst (λ pins. AreAnswers g c (leaf_inputs_from g n pins) []) (sym ended) refl))
+    (along.goes [] (subst (λ pins. AreAnswers g c (leaf_inputs_from g n pins) []) (sym ended) refl))

@@ -21,6 +21,7 @@ one_graph_more a count graphs g so_far is = record {
   where
     some_same : {x y : Graph} → Some x ≡ Some y → x ≡ y
     some_same e = cc
+
     by_place : (number : ℕ) (h : Graph) → slice_get (graphs ++ g ∷ []) number ≡ Some h → (number ≡ count) ⊎ (number ≡ count → ⊥) → IsGraphOf a number h
     by_place number h there (inl e) =
         let here : slice_get (graphs ++ g ∷ []) number ≡ Some g = get_after graphs [] g number (e ∙ sym so_far.all) in

@@ -13,9 +13,25 @@ use Rattle.vtr_top.specs.Says.{Says, SaysStop, Puts, Answers, status_of}
 pub says_stop : (words : List (List ℕ)) (files : Option Files) (a b : ℕ) (arch block prog : List ℕ) (s : Stop) (text : List ℕ) →
     AreRight words arch block prog → IsStop files a b arch block prog s → text ≡ stop_text s → Says words files a b (status_of s) text
 says_stop words files a b arch block prog (Refused name refusal) text right cause line = record {
-  arch = arch; block = block; prog = prog; right = right; why = Refused name refusal; cause = cause; is = refl; line = line }
+  arch = arch;
+  block = block;
+  prog = prog;
+  right = right;
+  why = Refused name refusal;
+  cause = cause;
+  is = refl;
+  line = line;
+}
 says_stop words files a b arch block prog (Outside name) text right cause line = record {
-  arch = arch; block = block; prog = prog; right = right; why = Outside name; cause = cause; is = refl; line = line }
+  arch = arch;
+  block = block;
+  prog = prog;
+  right = right;
+  why = Outside name;
+  cause = cause;
+  is = refl;
+  line = line;
+}
 says_stop words files a b arch block prog Memory text right cause line = line
 
 pub answered : (words : List (List ℕ)) (files : Option Files) (a b c d : ℕ) (old new : Option (List ℕ)) (s : Status) (text : List ℕ) (result : Status) →

@@ -25,10 +25,11 @@ one_more words place here there before stands k word low at = by_place (k_is k p
   where
     k_is : (k place : ℕ) → k < place + 1 → (k ≡ place) ⊎ (k < place)
     k_is k place low = elim (cases_eq k place) [ inl e ↦ inl e | inr apart ↦ inr (omega arith) ]
+
     by_place : (k ≡ place) ⊎ (k < place) → slice_get words k ≡ Some word → CanStand k word
     by_place (inl e) at =
         subst (λ p. CanStand p word) (sym e)
-          (subst (λ w. CanStand place w) (from_some (sym there ∙ sym (ap (λ p. slice_get words p) e) ∙ at)) stands)
+        (subst (λ w. CanStand place w) (from_some (sym there ∙ sym (ap (λ p. slice_get words p) e) ∙ at)) stands)
     by_place (inr low) at = before k word low at
 
 -- where all words can stand and there are not four, one is missing
@@ -40,6 +41,7 @@ missing words before other = record {
   where
     four_or_more : (words : List (List ℕ)) → StandBefore words (length words) → 4 < length words → ⊥
     four_or_more words before more = let fifth = element words 4 more in before 4 fifth.0 more fifth.1
+
     by_fifth : (4 < length words → ⊥) → length words < 4
     by_fifth few = elim (cases_lt 4 (length words)) [ inl more ↦ absurd (few more) | inr most ↦ omega arith ]
 
@@ -47,7 +49,7 @@ missing words before other = record {
 pub right_words : (words : List (List ℕ)) (c : Command) → StandBefore words (length words) → AreFour words c → AreCommand words c
 right_words words (Trace arch block prog) before four =
     let first : four.0 ≡ codes "trace" =
-      before 0 four.0 (subst (λ ws. 0 < length ws) (sym four.1) (omega arith)) (ap (λ ws. slice_get ws 0) four.1) in
+    before 0 four.0 (subst (λ ws. 0 < length ws) (sym four.1) (omega arith)) (ap (λ ws. slice_get ws 0) four.1) in
     record {
       are = four.1 ∙ ap (λ w. w ∷ (arch.now ∷ (block.now ∷ (prog.now ∷ [])))) first;
       each = λ place word there. before place word (slice_get_within words place word there) there;
@@ -64,8 +66,8 @@ four f (p ∷ q ∷ r ∷ []) s t u a b c n x y z i j k = absurd (omega arith)
 four f (p ∷ q ∷ r ∷ v ∷ []) s t u a b c n x y z i j k = (
   f p,
   ap (λ w. f p ∷ (w ∷ (f r ∷ (f v ∷ [])))) (ap f (sym x) ∙ sym i)
-  ∙ ap (λ w. f p ∷ (a ∷ (w ∷ (f v ∷ [])))) (ap f (sym y) ∙ sym j)
-  ∙ ap (λ w. f p ∷ (a ∷ (b ∷ (w ∷ [])))) (ap f (sym z) ∙ sym k),
+      ∙ ap (λ w. f p ∷ (a ∷ (w ∷ (f v ∷ [])))) (ap f (sym y) ∙ sym j)
+      ∙ ap (λ w. f p ∷ (a ∷ (b ∷ (w ∷ [])))) (ap f (sym z) ∙ sym k),
 )
 four f (p ∷ q ∷ r ∷ v ∷ w ∷ xs) s t u a b c n x y z i j k = absurd (omega arith)
 
@@ -78,4 +80,4 @@ pub missing_here : {X : Type 0} (f : X → List ℕ) (xs : List X) (place : ℕ)
 missing_here f xs place before past other =
     let same : length (map f xs) ≡ length xs = length-map xs f in
     subst (λ n. IsFirstWrong (map f xs) n) same
-      (missing (map f xs) (all_stand f xs place before past) (λ e. other (sym same ∙ e)))
+    (missing (map f xs) (all_stand f xs place before past) (λ e. other (sym same ∙ e)))

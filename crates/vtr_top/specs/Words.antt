@@ -1,7 +1,6 @@
 -- The rule on the words of a command line. The first word is the command; a later word that begins
 -- with `-` and isn't `-` alone can't stand, and there are as many words as the command takes.
 use Rattle.std.specs.Prelude.{◌≡◌, ◌<◌, ◌⊎◌, ℕ, zero, suc, List, [], ◌∷◌, Some, length, slice_get, codes}
-
 use Rattle.vtr_top.specs.declared.words.Command.{Command}
 use Rattle.vtr_top.specs.declared.words.Command.TheVariants.{Trace}
 
@@ -28,8 +27,8 @@ pub record AreRight (words : List (List ℕ)) (arch block prog : List ℕ) : Typ
 pub record IsFirstWrong (words : List (List ℕ)) (place : ℕ) : Type 0 where
   pub before : (k : ℕ) (word : List ℕ) → k < place → slice_get words k ≡ Some word → CanStand k word
   pub wrong :
-    ((word : List ℕ) × (slice_get words place ≡ Some word) × (CanStand place word → ⊥))
-    ⊎ ((place ≡ length words) × (place < 4))
+      ((word : List ℕ) × (slice_get words place ≡ Some word) × (CanStand place word → ⊥))
+      ⊎ ((place ≡ length words) × (place < 4))
 
 -- the words are this command
 abbrev pub AreCommand : List (List ℕ) → Command → Type 0

@@ -1,10 +1,10 @@
 //! The commands of the program: their words, their inputs in turn, and what they print.
 #![tactic(auto)]
 
+mod command;
 mod fetch;
 mod lines;
 mod print;
-mod command;
 mod status;
 mod stop;
 #[cfg(test)]

@@ -22,7 +22,12 @@ pub fn answers(alloc: Global, graph: &PbGraph, prog: &Prog) -> Result<Vec<u8>, A
 }
 
 /// Writes the lines into an empty text, with a mark for each pin that no walk has made yet.
-fn put_lines(text: &mut Vec<u8>, graph: &PbGraph, prog: &Prog, met: &mut [u32]) -> Result<(), AllocError>
+fn put_lines(
+    text: &mut Vec<u8>,
+    graph: &PbGraph,
+    prog: &Prog,
+    met: &mut [u32],
+) -> Result<(), AllocError>
     requires of { IsProgOf graph.now prog.now }
     requires empty { text.old.items ≡ [] }
     requires room { length met.old ≡ length graph.now.pins }
@@ -79,7 +84,13 @@ fn side_of(graph: &PbGraph, at: PinAt) -> Side
 }
 
 /// Appends the line of a pin.
-fn put_line(text: &mut Vec<u8>, graph: &PbGraph, prog: &Prog, pin: PinIx, met: &mut [u32]) -> Result<(), AllocError>
+fn put_line(
+    text: &mut Vec<u8>,
+    graph: &PbGraph,
+    prog: &Prog,
+    pin: PinIx,
+    met: &mut [u32],
+) -> Result<(), AllocError>
     requires inside { pin.0 < length graph.now.pins }
     requires of { IsProgOf graph.now prog.now }
     requires room { length met.old ≡ length graph.now.pins }
@@ -95,7 +106,13 @@ fn put_line(text: &mut Vec<u8>, graph: &PbGraph, prog: &Prog, pin: PinIx, met: &
 }
 
 /// Appends the name of the last pin of the walk back, or `open`.
-fn put_answer(text: &mut Vec<u8>, graph: &PbGraph, prog: &Prog, pin: PinIx, met: &mut [u32]) -> Result<(), AllocError>
+fn put_answer(
+    text: &mut Vec<u8>,
+    graph: &PbGraph,
+    prog: &Prog,
+    pin: PinIx,
+    met: &mut [u32],
+) -> Result<(), AllocError>
     requires inside { pin.0 < length graph.now.pins }
     requires of { IsProgOf graph.now prog.now }
     requires room { length met.old ≡ length graph.now.pins }

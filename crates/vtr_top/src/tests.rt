@@ -4,7 +4,8 @@ use std::alloc::{AllocError, Global};
 use std::collections::BTreeMap;
 use std::test::Fail;
 
-const ONE: &str = "<architecture><complexblocklist><pb_type name=\"blk\">\n<input name=\"i\" num_pins=\"2\"/><output name=\"o\" num_pins=\"1\"/>\n<pb_type name=\"lut\" num_pb=\"1\" blif_model=\".names\" class=\"lut\">\n<input name=\"in\" num_pins=\"1\"/><output name=\"out\" num_pins=\"1\"/></pb_type>\n<interconnect><mux name=\"m\" input=\"blk.i[0] blk.i[1]\" output=\"lut.in\"/>\n<direct name=\"d\" input=\"lut.out\" output=\"blk.o\"/></interconnect>\n</pb_type></complexblocklist></architecture>\n";
+const ONE: &str =
+    "<architecture><complexblocklist><pb_type name=\"blk\">\n<input name=\"i\" num_pins=\"2\"/><output name=\"o\" num_pins=\"1\"/>\n<pb_type name=\"lut\" num_pb=\"1\" blif_model=\".names\" class=\"lut\">\n<input name=\"in\" num_pins=\"1\"/><output name=\"out\" num_pins=\"1\"/></pb_type>\n<interconnect><mux name=\"m\" input=\"blk.i[0] blk.i[1]\" output=\"lut.in\"/>\n<direct name=\"d\" input=\"lut.out\" output=\"blk.o\"/></interconnect>\n</pb_type></complexblocklist></architecture>\n";
 
 const PICKED: &str = "mode blk default\npin blk/default:lut[0].in[0] default blk.i[1]\n";
 
@@ -24,7 +25,12 @@ fn shelf(alloc: Global, prog: Option<&str>, fails: &[u64]) -> Result<MemShelf, A
 }
 
 /// Runs the words, divided by spaces, and gives the exit status and what was printed.
-fn outcome(alloc: Global, words: &str, shelf: &mut MemShelf, sink_fails: &[u64]) -> Result<(u8, Vec<u8>), AllocError> {
+fn outcome(
+    alloc: Global,
+    words: &str,
+    shelf: &mut MemShelf,
+    sink_fails: &[u64],
+) -> Result<(u8, Vec<u8>), AllocError> {
     let mut list = Vec::new(alloc);
     for word in words.split_whitespace() {
         list.push(String::from_str(alloc, word)?)?;
@@ -38,18 +44,69 @@ fn outcome(alloc: Global, words: &str, shelf: &mut MemShelf, sink_fails: &[u64])
 #[test]
 fn rows(rt: HostRuntime) -> Result<(), Fail> {
     let alloc = rt.alloc();
-    let twice = "mode blk default\npin blk/default:lut[0].in[0] default blk.i[1]\npin blk/default:lut[0].in[0] default blk.i[1]\n";
+    let twice =
+        "mode blk default\npin blk/default:lut[0].in[0] default blk.i[1]\npin blk/default:lut[0].in[0] default blk.i[1]\n";
     let rows = [
-        ("trace one.xml blk p.txt", Some(PICKED), 0, "blk/default:lut[0].in[0] blk.i[1]\n"),
-        ("trace one.xml blk p.txt", Some(""), 0, "blk/default:lut[0].in[0] open\n"),
-        ("trace one.xml blk p.txt", Some("mode blk default\n"), 0, "blk/default:lut[0].in[0] open\n"),
-        ("trace one.xml blk p.txt", None, 3, "p.txt: refused 7 Missing\n"),
-        ("trace two.xml blk p.txt", Some(PICKED), 3, "two.xml: refused 7 Missing\n"),
-        ("trace one.xml clb p.txt", Some(PICKED), 3, "one.xml: refused 5 NoBlockType clb\n"),
-        ("trace one.xml clb p.txt", None, 3, "p.txt: refused 7 Missing\n"),
-        ("trace one.xml blk p.txt", Some("used blk/default:lut[0]\n"), 3, "p.txt: refused 6 NotBuilt programming\n"),
-        ("trace one.xml blk p.txt", Some(twice), 3, "p.txt: refused 6 NotBuilt programming\n"),
-        ("trace p.txt blk p.txt", Some(PICKED), 3, "p.txt: refused 6 NotBuilt architecture\n"),
+        (
+            "trace one.xml blk p.txt",
+            Some(PICKED),
+            0,
+            "blk/default:lut[0].in[0] blk.i[1]\n",
+        ),
+        (
+            "trace one.xml blk p.txt",
+            Some(""),
+            0,
+            "blk/default:lut[0].in[0] open\n",
+        ),
+        (
+            "trace one.xml blk p.txt",
+            Some("mode blk default\n"),
+            0,
+            "blk/default:lut[0].in[0] open\n",
+        ),
+        (
+            "trace one.xml blk p.txt",
+            None,
+            3,
+            "p.txt: refused 7 Missing\n",
+        ),
+        (
+            "trace two.xml blk p.txt",
+            Some(PICKED),
+            3,
+            "two.xml: refused 7 Missing\n",
+        ),
+        (
+            "trace one.xml clb p.txt",
+            Some(PICKED),
+            3,
+            "one.xml: refused 5 NoBlockType clb\n",
+        ),
+        (
+            "trace one.xml clb p.txt",
+            None,
+            3,
+            "p.txt: refused 7 Missing\n",
+        ),
+        (
+            "trace one.xml blk p.txt",
+            Some("used blk/default:lut[0]\n"),
+            3,
+            "p.txt: refused 6 NotBuilt programming\n",
+        ),
+        (
+            "trace one.xml blk p.txt",
+            Some(twice),
+            3,
+            "p.txt: refused 6 NotBuilt programming\n",
+        ),
+        (
+            "trace p.txt blk p.txt",
+            Some(PICKED),
+            3,
+            "p.txt: refused 6 NotBuilt architecture\n",
+        ),
         ("", None, 2, "words 1\n"),
         ("make 3 a b c", None, 2, "words 1\n"),
         ("trace one.xml", None, 2, "words 3\n"),
@@ -92,6 +149,9 @@ fn long_files(rt: HostRuntime) -> Result<(), Fail> {
     let mut files = MemShelf::new(alloc, files, Vec::new(alloc));
     let (status, printed) = outcome(alloc, "trace long.xml blk p.txt", &mut files, &[])?;
     assert_eq!(rt; status, 3);
-    assert_eq!(rt; printed.as_slice(), b"long.xml: refused 4 TooLong\n".as_slice());
+    assert_eq!(rt;
+        printed.as_slice(),
+        b"long.xml: refused 4 TooLong\n".as_slice()
+    );
     Ok(())
 }

@@ -17,7 +17,13 @@ use vtr_base::Shelf;
 
 /// `trace ARCH BLOCK PROG`: follows the chosen edges in a block type. ARCH is fetched and read, and
 /// its block types are expanded; then PROG is fetched, BLOCK is looked up, and PROG is read.
-pub fn trace<'w, S: Shelf>(alloc: Global, arch: &'w str, block: &'w str, prog: &'w str, shelf: &mut S) -> Result<Vec<u8>, Stop<'w>>
+pub fn trace<'w, S: Shelf>(
+    alloc: Global,
+    arch: &'w str,
+    block: &'w str,
+    prog: &'w str,
+    shelf: &mut S,
+) -> Result<Vec<u8>, Stop<'w>>
     ensures held { S.files shelf.new ≡ S.files shelf.old }
     ensures done { IfOk result (λ text. IsTraced (S.files shelf.old) arch.now block.now prog.now text.items) }
     ensures stopped { IfErr result (IsStop (S.files shelf.old) (S.faults shelf.old) (S.faults shelf.new) arch.now block.now prog.now) }
@@ -57,7 +63,11 @@ fn not_built(file: &str, form: Form) -> Stop<'_>
 }
 
 /// The graphs of all block types, in the order of the file.
-fn graphs_of<'w>(alloc: Global, arch: &'w str, architecture: &Arch) -> Result<Vec<PbGraph>, Stop<'w>>
+fn graphs_of<'w>(
+    alloc: Global,
+    arch: &'w str,
+    architecture: &Arch,
+) -> Result<Vec<PbGraph>, Stop<'w>>
     ensures graphs { IfOk result (λ graphs. AreGraphs architecture.now graphs.items) }
     ensures stopped { IfErr result (IsFormStop arch.now Architecture) }
 {
@@ -70,7 +80,12 @@ fn graphs_of<'w>(alloc: Global, arch: &'w str, architecture: &Arch) -> Result<Ve
 }
 
 /// The graph of one block type.
-fn graph_of<'w>(alloc: Global, arch: &'w str, architecture: &Arch, number: usize) -> Result<PbGraph, Stop<'w>>
+fn graph_of<'w>(
+    alloc: Global,
+    arch: &'w str,
+    architecture: &Arch,
+    number: usize,
+) -> Result<PbGraph, Stop<'w>>
     requires { number < length architecture.now.blocks }
     ensures graph { IfOk result (IsGraphOf architecture.now number) }
     ensures stopped { IfErr result (IsFormStop arch.now Architecture) }
@@ -83,7 +98,10 @@ fn graph_of<'w>(alloc: Global, arch: &'w str, architecture: &Arch, number: usize
             graph.law();
             Ok(graph)
         }
-        Err(ExpandError::NotBuilt | ExpandError::TooMany) => Err(not_built(arch, Form::Architecture)),
+        Err(ExpandError::NotBuilt | ExpandError::TooMany) => Err(not_built(
+            arch,
+            Form::Architecture,
+        )),
         Err(ExpandError::OutOfMemory) => Err(Stop::Memory),
     }
 }
@@ -101,7 +119,12 @@ fn block_named(blocks: &[PbType], name: &str) -> Option<usize>
 }
 
 /// The lines of a programming that the bytes of its file spell.
-fn text_of<'w>(alloc: Global, prog: &'w str, graph: &PbGraph, bytes: &[u8]) -> Result<Vec<u8>, Stop<'w>>
+fn text_of<'w>(
+    alloc: Global,
+    prog: &'w str,
+    graph: &PbGraph,
+    bytes: &[u8],
+) -> Result<Vec<u8>, Stop<'w>>
     ensures text { IfOk result (λ text. IsTextOf graph.now bytes.now text.items) }
     ensures stopped { IfErr result (IsFormStop prog.now Programming) }
 {

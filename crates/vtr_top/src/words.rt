@@ -5,7 +5,11 @@ ghost use Rattle.vtr_top.specs.Words.{IsPlain, CanStand, AreFour, AreCommand, Is
 #[derive(Clone, Copy)]
 pub enum Command<'w> {
     /// `trace ARCH BLOCK PROG`
-    Trace { arch: &'w str, block: &'w str, prog: &'w str },
+    Trace {
+        arch: &'w str,
+        block: &'w str,
+        prog: &'w str,
+    },
 }
 
 /// The command that the words are, or the first place, counted from 0, at which they are none.

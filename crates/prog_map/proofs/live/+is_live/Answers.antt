@@ -11,6 +11,6 @@ returns-then-not-is_set_to t c = (
 pub returns-else-not-is_set_to : goal.returns-else-not-is_set_to
 returns-else-not-is_set_to t c = (
   λ above.
-    climb_up _ _ c.in-Some.step _ c.law.ensures c.in-Some.ensures.step (c.if-not-is_set_to.ensures.0 refl) (c.is_live.ensures.0 above),
+      climb_up _ _ c.in-Some.step _ c.law.ensures c.in-Some.ensures.step (c.if-not-is_set_to.ensures.0 refl) (c.is_live.ensures.0 above),
   λ live. c.is_live.ensures.1 (climb_above _ _ c.in-Some.step _ c.in-Some.ensures.step live),
 )

@@ -9,7 +9,7 @@ loop-pin-preserved-then-not-is_leaf_input c =
 pub loop-pin-preserved : goal.loop-pin-preserved
 loop-pin-preserved c =
     answering_line _ _ _ _ _ c.loop-pin.met _ (omega (arith, c.loop-pin-test.true, c.pins-pin-end.ensures)) (sym c.if-not-is_leaf_input.ensures)
-      c.loop-pin.invariant c.in_ok-put_line.ensures.line c.in_ok-put_line.ensures.marks c.put_line.auto.met
+    c.loop-pin.invariant c.in_ok-put_line.ensures.line c.in_ok-put_line.ensures.marks c.put_line.auto.met
 
 pub returns : goal.returns
 returns c = answering_last _ _ _ _ _ (omega (arith, c.loop-pin-test.false, c.pins-pin-end.ensures)) c.loop-pin.invariant

@@ -5,7 +5,7 @@ use Rattle.vtr_top.proofs.words.read_words.Goals as goal
 pub returns-in-Some : goal.returns-in-Some
 returns-in-Some c =
     right_words _ c.in-Some.command
-      (all_stand string_bytes c.args.words.now c.loop-place.place c.loop-place.invariant c.loop-place-test.false) c.in-Some.ensures
+    (all_stand string_bytes c.args.words.now c.loop-place.place c.loop-place.invariant c.loop-place-test.false) c.in-Some.ensures
 
 pub returns-in-None : goal.returns-in-None
 returns-in-None c =

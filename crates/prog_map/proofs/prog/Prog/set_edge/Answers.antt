@@ -7,6 +7,6 @@ use Rattle.prog_map.proofs.prog.Prog.set_edge.Goals as goal
 pub returns-clause-ok : goal.returns-clause-ok
 returns-clause-ok c =
     ap (λ m. choices_at (from_entries c.self.inside.modes.entries) m)
-      (set_at sites_total sites_apart c.self.inside.picks c.insert.new.self (c.args.pin.0, c.args.mode) c.args.edge.0
-        c.in_ok-insert.ensures.updates.0)
+    (set_at sites_total sites_apart c.self.inside.picks c.insert.new.self (c.args.pin.0, c.args.mode) c.args.edge.0
+    c.in_ok-insert.ensures.updates.0)
     ∙ ap (λ v. with_pick v c.args.pin.0 c.args.mode c.args.edge.0) c.self.view_is

@@ -8,6 +8,6 @@ use Rattle.prog_map.proofs.prog.Prog.set_mode.Goals as goal
 pub returns-clause-ok : goal.returns-clause-ok
 returns-clause-ok c =
     ap (λ m. choices_at m (from_entries c.self.inside.picks.entries))
-      (set_at nat_cmp_total nat_cmp-IsAntisymmetric c.self.inside.modes c.insert.new.self c.args.pb.0 c.args.mode
-        c.in_ok-insert.ensures.updates.0)
+    (set_at nat_cmp_total nat_cmp-IsAntisymmetric c.self.inside.modes c.insert.new.self c.args.pb.0 c.args.mode
+    c.in_ok-insert.ensures.updates.0)
     ∙ ap (λ v. with_mode v c.args.pb.0 c.args.mode) c.self.view_is
