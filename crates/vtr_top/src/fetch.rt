@@ -1,6 +1,6 @@
 ghost use Rattle.std.specs.Prelude.{◌≡◌, ◌≤◌, IfOk, IfErr};
 ghost use Rattle.vtr_top.specs.Inputs.{Fetched};
-ghost use Rattle.vtr_top.specs.Stops.{IsUnfetched};
+ghost use Rattle.vtr_top.specs.Stops.{IsUnfetched, IsStopOf};
 
 use crate::stop::{Refusal, Stop};
 use std::alloc::Global;
