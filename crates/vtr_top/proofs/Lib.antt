@@ -4,3 +4,4 @@ pub mod Stopped
 pub mod Said
 pub mod Named
 pub mod Graphs
+pub mod Traced

@@ -2,7 +2,7 @@ ghost use Rattle.std.specs.Prelude.{◌≡◌, IfOk, map, string_bytes};
 ghost use Rattle.vtr_top.specs.Says.{Says, Puts, Answers};
 
 use crate::Status;
-use crate::print::{stop_line, words_line};
+use crate::print::{memory_line, stop_line, words_line};
 use crate::trace::trace;
 use crate::words::{Command, read_words};
 use std::alloc::{AllocError, Global};
@@ -24,7 +24,7 @@ pub fn run<S: Shelf, K: Sink>(alloc: Global, words: &[String], shelf: &mut S, ou
 {
     match answer_of(alloc, words, shelf) {
         Ok(Answer { status, text }) => say(out, text.as_slice(), status),
-        Err(_) => say(out, b"memory\n", Status::Memory),
+        Err(_) => say(out, memory_line(), Status::Memory),
     }
 }
 

@@ -17,6 +17,13 @@ pub fn words_line(alloc: Global, place: usize) -> Result<Vec<u8>, AllocError>
     Ok(text)
 }
 
+/// The line of a run that ran out of memory, which is made without any.
+pub fn memory_line() -> &'static [u8]
+    ensures { result.now ≡ codes "memory\n" }
+{
+    b"memory\n"
+}
+
 /// The line that says why a command ended.
 pub fn stop_line(alloc: Global, stop: Stop<'_>) -> Result<Vec<u8>, AllocError>
     ensures { IfOk result (λ text. text.items ≡ stop_text stop.entry) }
