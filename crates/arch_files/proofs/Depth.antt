@@ -1,5 +1,5 @@
 -- An architecture of the first form is five levels deep.
-use Rattle.std.proofs.Common.{◌≡◌, ◌≤◌, ◌<◌, ◌+◌, ◌-◌, ℕ, zero, suc, List, [], ◌∷◌, ◌++◌, sym, subst, arith, rules, append_assoc, append-nil}
+use Rattle.std.proofs.Common.{◌≡◌, ◌≤◌, ◌+◌, ◌-◌, ℕ, zero, suc, List, [], ◌∷◌, ◌++◌, sym, subst, arith, rules, append_assoc, append-nil}
 use Rattle.vtr_base.specs.declared.place.Place.{Place}
 use Rattle.arch_types.specs.declared.arch.Arch.{Arch}
 use Rattle.arch_types.specs.declared.block.Inter.{Inter}
@@ -9,7 +9,7 @@ use Rattle.arch_types.specs.Tree.{kids_of, inters_of}
 use Rattle.elem_text.specs.declared.elem.Attr.{Attr}
 use Rattle.elem_text.specs.declared.elem.Elem.{Elem, out-Elem}
 use Rattle.elem_text.specs.declared.elem.Elem.TheViews.{the_lemmas}
-use Rattle.elem_text.specs.Tree.{Piece, opens, closes, hollow, run, skip, Content, nothing, words, passed, leaf, node, elem, joined}
+use Rattle.elem_text.specs.Tree.{Piece, closes, Content, nothing, words, passed, leaf, node, elem, joined}
 use Rattle.elem_text.specs.Refusals.{AreShallow}
 use Rattle.arch_files.specs.Attributes.{Each}
 use Rattle.arch_files.specs.FirstForm.{Holds, IsPort, IsLut, IsInter, IsBlock, SaysArch}

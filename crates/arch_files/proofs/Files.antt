@@ -1,5 +1,5 @@
 -- What a file says, by its root element or by why it has none.
-use Rattle.std.proofs.Common.{◌≡◌, ℕ, List, Result, Ok, Err, sym, subst, arith, lit≤}
+use Rattle.std.proofs.Common.{◌≡◌, ℕ, List, Result, Ok, Err, sym, subst, lit≤}
 use Rattle.std.specs.Result.{IsErrAnd}
 use Rattle.arch_types.specs.declared.arch.Arch.{Arch}
 use Rattle.elem_text.specs.declared.elem.Elem.{Elem}

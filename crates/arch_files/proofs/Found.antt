@@ -1,6 +1,5 @@
 -- The first attribute of a name.
-use Rattle.std.proofs.Common.{◌≡◌, ◌+◌, ◌<◌, ℕ, Bool, true, false, cond, List, [], ◌∷◌, Option, Some, None, length, drop, suc, get_or, refl, sym, ◌∙◌, ap, subst, arith, drop-cons, add-one}
-use Rattle.std.specs.Str.{bytes_eq}
+use Rattle.std.proofs.Common.{◌≡◌, ◌+◌, ◌<◌, ℕ, cond, List, ◌∷◌, Some, length, drop, suc, get_or, sym, ◌∙◌, ap, subst, drop-cons, add-one}
 use Rattle.std.proofs.lemmas.Bool.{false_from_ne_true}
 use Rattle.std.proofs.lemmas.Slice.Eq.{bytes_eq-Decides}
 use Rattle.elem_text.specs.declared.elem.Attr.{Attr}

@@ -9,7 +9,7 @@ use Rattle.arch_types.specs.declared.block.Side.TheVariants.{Input, Output, Cloc
 use Rattle.arch_types.specs.Tree.{kids_of}
 use Rattle.elem_text.specs.declared.elem.Elem.{Elem, out-Elem}
 use Rattle.arch_files.specs.Attributes.{Each}
-use Rattle.arch_files.specs.FirstForm.{Holds, IsPort, IsLut, IsBlock, IsJoined, ArePorts, IsNoPort, AreNamedPorts, StopsPorts, ArePartedAt, side_name}
+use Rattle.arch_files.specs.FirstForm.{Holds, IsPort, IsLut, IsBlock, IsJoined, ArePorts, AreNamedPorts, StopsPorts, ArePartedAt, side_name}
 
 none_ends : {X : Type 0} (xs ys : List X) (y : X) → [] ≡ xs ++ (ys ++ y ∷ []) → ⊥
 none_ends [] [] y is = cc

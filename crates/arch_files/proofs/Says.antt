@@ -1,5 +1,5 @@
 -- What was read of the elements, put together.
-use Rattle.std.proofs.Common.{◌≡◌, ℕ, List, [], ◌∷◌, ◌++◌, map, codes, sym, ◌∙◌, ap, subst}
+use Rattle.std.proofs.Common.{◌≡◌, ℕ, List, [], ◌∷◌, map, codes, sym, ◌∙◌, ap, subst}
 use Rattle.arch_types.specs.declared.arch.Arch.{Arch}
 use Rattle.arch_types.specs.declared.block.Kind.TheVariants as kind
 use Rattle.arch_types.specs.declared.block.Mode.{Mode}

@@ -1,5 +1,5 @@
 -- An element says one thing.
-use Rattle.std.proofs.Common.{◌≡◌, ◌<◌, ◌+◌, ℕ, List, [], ◌∷◌, Option, Some, map, codes, get_or, refl, sym, ◌∙◌, ap, subst, arith}
+use Rattle.std.proofs.Common.{◌≡◌, ℕ, List, [], ◌∷◌, Option, Some, map, codes, get_or, refl, sym, ◌∙◌, ap, subst, arith}
 use Rattle.std.specs.Str.Parse.{digits_value}
 use Rattle.arch_types.specs.declared.block.Kind.{Kind}
 use Rattle.arch_types.specs.declared.block.Meta.{Meta}

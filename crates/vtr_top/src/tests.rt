@@ -1,4 +1,6 @@
 use crate::run;
+use arch_files::read_arch;
+use pb_expand::{EdgeIx, PbIx, PinIx, expand};
 use shelf_kit::{MemShelf, MemSink};
 use std::alloc::{AllocError, Global};
 use std::collections::BTreeMap;
@@ -153,5 +155,23 @@ fn long_files(rt: HostRuntime) -> Result<(), Fail> {
         printed.as_slice(),
         b"long.xml: refused 4 TooLong\n".as_slice()
     );
+    Ok(())
+}
+
+#[test]
+fn graph_of_one_lut(rt: HostRuntime) -> Result<(), Fail> {
+    let alloc = rt.alloc();
+    let arch = read_arch(alloc, ONE.as_bytes())?;
+    assert_eq!(rt; arch.blocks.len(), 1);
+    let graph = expand(alloc, &arch, 0)?;
+    assert_eq!(rt; graph.block(), 0);
+    assert!(rt; graph.root().name.is(b"blk"));
+    assert_eq!(rt; graph.pbs(), 2);
+    assert_eq!(rt; graph.child_of(PbIx(0), 0, 0, 0), Some(PbIx(1)));
+    assert_eq!(rt; graph.child_of(PbIx(0), 0, 0, 1), None);
+    assert_eq!(rt; graph.pin_of(PbIx(0), 1, 0), Some(PinIx(2)));
+    assert_eq!(rt; graph.pin_of(PbIx(1), 1, 1), None);
+    assert_eq!(rt; graph.edges(), 3);
+    assert_eq!(rt; graph.mode_of_edge(EdgeIx(2)), (PbIx(0), 0));
     Ok(())
 }
