@@ -1,5 +1,5 @@
 -- Words on lists that definitions of formats and fabrics share.
-use Rattle.std.specs.Prelude.{◌≡◌, ◌<◌, ◌+◌, ◌⊎◌, ℕ, zero, suc, List, [], ◌∷◌, Option, Some, slice_get}
+use Rattle.std.specs.Prelude.{◌≡◌, ◌<◌, ◌+◌, ◌⊎◌, ℕ, zero, suc, List, [], ◌∷◌, Some, slice_get}
 
 -- x stands in the list
 abbrev pub Has : {X : Type 0} → List X → X → Type 0

@@ -1,5 +1,5 @@
 -- Parts of a text that are cut by the class of their bytes.
-use Rattle.std.specs.Prelude.{◌≡◌, ◌==◌, ◌||◌, ◌<◌, ℕ, Bool, true, false, not, List, [], ◌∷◌, ◌++◌, length}
+use Rattle.std.specs.Prelude.{◌≡◌, ◌==◌, ◌||◌, ◌<◌, ℕ, Bool, false, not, List, [], ◌∷◌, ◌++◌, length}
 use Rattle.std.specs.List.{AllPass}
 
 -- white space of the file formats: space, tab, line feed and carriage return

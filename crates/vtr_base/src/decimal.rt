@@ -1,4 +1,4 @@
-ghost use Rattle.std.specs.Prelude.{◌≡◌, ◌+◌, ◌*◌, ◌<◌, ◌≤◌, ◌^◌, ◌++◌, ℕ, OnOk, MatchOption};
+ghost use Rattle.std.specs.Prelude.{◌≡◌, ◌+◌, ◌*◌, ◌<◌, ◌≤◌, ◌^◌, ◌++◌, ℕ, OnOk, OnErr, MatchOption};
 ghost use Rattle.std.specs.Option.{SomeIff};
 ghost use Rattle.std.specs.Char.{digit_value};
 ghost use Rattle.std.specs.Fmt.{decimal};
@@ -7,9 +7,11 @@ ghost use Rattle.vtr_base.specs.Decimal.{IsNumber};
 use itoa::Buffer;
 use std::alloc::AllocError;
 
-/// Appends the decimal text of `n`, without leading zeros.
+/// Appends the decimal text of `n`, without leading zeros. Where memory runs out, nothing is
+/// appended.
 pub fn put_number(out: &mut Vec<u8>, n: u64) -> Result<(), AllocError>
-    ensures { OnOk result (out.new.items ≡ out.old.items ++ decimal n) }
+    ensures ok { OnOk result (out.new.items ≡ out.old.items ++ decimal n) }
+    ensures err { OnErr result (out.new.items ≡ out.old.items) }
 {
     out.extend_from_slice(Buffer::new().format(n).as_bytes())
 }

@@ -1,4 +1,4 @@
-ghost use Rattle.std.specs.Prelude.{◌≡◌, ◌++◌, [], ◌↔◌, IsTrue, IfOk, OnOk, encode_utf8};
+ghost use Rattle.std.specs.Prelude.{◌≡◌, ◌++◌, [], ◌↔◌, IsTrue, IfOk, OnOk, OnErr, encode_utf8};
 
 use std::alloc::{AllocError, Global};
 use std::marker::Model;
@@ -38,14 +38,16 @@ impl Text {
 
     /// Appends `s`. Where memory runs out, the text is as before.
     pub fn push_str(&mut self, s: &str) -> Result<(), AllocError>
-        ensures { OnOk result (self.new ≡ self.old ++ s.now) }
+        ensures ok { OnOk result (self.new ≡ self.old ++ s.now) }
+        ensures err { OnErr result (self.new ≡ self.old) }
     {
         self.inner.push_str(s)
     }
 
     /// Appends one character. Where memory runs out, the text is as before.
     pub fn push(&mut self, c: char) -> Result<(), AllocError>
-        ensures { OnOk result (self.new ≡ self.old ++ encode_utf8 c) }
+        ensures ok { OnOk result (self.new ≡ self.old ++ encode_utf8 c) }
+        ensures err { OnErr result (self.new ≡ self.old) }
     {
         self.inner.push(c)
     }
