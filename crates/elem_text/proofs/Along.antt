@@ -1,20 +1,19 @@
 -- The whole state of the reader, one piece on, and where it ends.
-use Rattle.std.proofs.Common.{◌≡◌, ℕ, zero, suc, ◌<◌, ◌≤◌, ◌+◌, Bool, true, false, List, [], ◌∷◌, ◌++◌, length, refl, sym, ap, subst, ◌∙◌, arith, append-nil, append_assoc, length-append, ⊎_elim, ◌⊎◌}
+use Rattle.std.proofs.Common.{◌≡◌, ℕ, ◌<◌, Bool, true, false, List, [], ◌∷◌, ◌++◌, length, refl, sym, ap, subst, ◌∙◌, arith, append_assoc, ⊎_elim}
 use Rattle.vtr_base.specs.declared.place.Place.{Place}
 use Rattle.elem_text.specs.declared.elem.Attr.{Attr}
 use Rattle.elem_text.specs.declared.elem.Elem.{Elem}
-use Rattle.elem_text.specs.Bytes.{place_after, IsSpan, IsNamed}
-use Rattle.elem_text.specs.Tree.{Piece, opens, closes, hollow, run, skip, IsDocument}
-use Rattle.elem_text.specs.Grammar.{IsLex, Reads, IsFile, IsStartTag, IsEndTag, IsComment, IsInstruction, IsAttr, IsQuoted, Attributes, tail_of}
+use Rattle.elem_text.specs.Bytes.{place_after, IsSpan}
+use Rattle.elem_text.specs.Tree.{Piece, opens, closes, hollow, run, skip}
+use Rattle.elem_text.specs.Grammar.{IsLex, Reads, IsFile, IsStartTag, IsEndTag, IsComment, IsInstruction, IsAttr, Attributes, tail_of}
 use Rattle.elem_text.specs.Stack.{Stack, IsAllowed, AreAllowed, next, after, outside, IsFinished, IsUnfinished, IsShallowFor, IsTooDeepFor}
-use Rattle.elem_text.specs.Refusals.{AreShallow, IsBad, Fails, wrong, unread, cut, short, BreaksFrom, DeepensFrom, RefusesFrom, TellsFlaw, TellsRefusal}
+use Rattle.elem_text.specs.Refusals.{AreShallow, wrong, unread, cut, short, BreaksFrom, RefusesFrom, TellsFlaw, TellsRefusal}
 use Rattle.elem_text.specs.Flaws.{IsFlawOf, APiece}
 use Rattle.elem_text.specs.declared.lex.Flaw.{Flaw}
 use Rattle.elem_text.specs.declared.lex.Flaw.TheVariants.{Cut, Bad, OutOfMemory as no_memory}
 use Rattle.elem_text.specs.declared.stack.Refusal.{Refusal}
 use Rattle.elem_text.specs.declared.stack.Refusal.TheVariants.{Broken as not_allowed, Deep as deeper, OutOfMemory as memory_gone}
 use Rattle.elem_text.specs.declared.error.ElemError.{ElemError}
-use Rattle.elem_text.specs.declared.error.ElemError.TheVariants.{Broken, Deep, OutOfMemory}
 use Rattle.elem_text.proofs.Complete.{fits_so_far, stuck, unfinished, shallow_next, too_deep, allowed_deep}
 use Rattle.elem_text.proofs.OneLex.{is_cut}
 use Rattle.elem_text.proofs.Spans.{begun_by}

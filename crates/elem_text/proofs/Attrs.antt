@@ -1,14 +1,14 @@
 -- Attributes of a tag.
-use Rattle.std.proofs.Common.{◌≡◌, ℕ, zero, suc, ◌<◌, ◌≤◌, ◌+◌, Bool, true, false, List, [], ◌∷◌, ◌++◌, length, take, drop, get_or, refl, sym, ap, subst, ◌∙◌, arith, append_assoc, length-append, append-nil, inl, inr}
+use Rattle.std.proofs.Common.{◌≡◌, ℕ, zero, suc, ◌<◌, Bool, true, false, List, [], ◌∷◌, ◌++◌, length, get_or, refl, sym, ap, subst, ◌∙◌, arith, append_assoc, append-nil, inl, inr}
 use Rattle.elem_text.specs.declared.elem.Attr.{Attr}
-use Rattle.std.proofs.Common.{IsUtf8}
-use Rattle.elem_text.specs.Bytes.{is_white, is_not, IsSpan, IsNamed}
+use Rattle.elem_text.specs.Bytes.{is_white, is_not, IsSpan}
 use Rattle.elem_text.specs.References.{decoded}
 use Rattle.elem_text.specs.Grammar.{HasName, IsQuoted, IsAttr, Attributes, tail_of}
 use Rattle.elem_text.specs.Next.{IsNext}
 use Rattle.elem_text.specs.declared.tags.Next.{Next}
 use Rattle.elem_text.specs.declared.tags.Next.TheVariants.{End, Attr as an_attr}
-use Rattle.std.specs.Borrow.{Bor}
+use Rattle.elem_text.specs.declared.tag_attrs.RawAttr.{RawAttr}
+use Rattle.elem_text.specs.Later.{attr_of}
 use Rattle.elem_text.specs.declared.tags.TagEnd.{TagEnd}
 use Rattle.std.proofs.lemmas.Bool.{false≢true}
 use Rattle.elem_text.proofs.Classes.{white_letter, letter_62, letter_47}
@@ -130,48 +130,43 @@ back_one done left gap rest raw after a more later empty end s t v b =
         let Q : List ℕ → Type 0 = λ l. Attributes (done ++ a ∷ []) l others (tail_of empty end) in
         (others, ap (λ (y : Attr). y ∷ others) same, subst Q (sym e.2) (subst P same w.6))
 
-reading_on : (all : List ℕ) (done : List Attr) (left : List ℕ) (a : Attr) (after : Bor (List ℕ)) → Reading all done left → IsNext done left (an_attr a after) →
-    Reading all (done ++ a ∷ []) after.now
-reading_on all done left a after r n = record {
+reading_on : (all : List ℕ) (done : List Attr) (left : List ℕ) (r : RawAttr) → Reading all done left → IsNext done left (an_attr r) → Reading all (done ++ attr_of r ∷ []) r.after.now
+reading_on all done left r g n = record {
   on = λ more attrs x later.
       let rest = n.1 in
-      let whole : Attributes done (left ++ more) (a ∷ attrs) x = (
+      let whole : Attributes done (left ++ more) (attr_of r ∷ attrs) x = (
         n.0,
         rest ++ more,
-        n.2,
-        after.now ++ more,
-        span_more is_white left n.0 rest more n.3 (attr_some rest a.name n.2 after.now n.5),
-        n.4,
-        attr_more rest a.name n.2 after.now more n.5,
-        n.6,
-        n.7,
+        r.raw.now,
+        r.after.now ++ more,
+        span_more is_white left n.0 rest more n.2 (attr_some rest r.name.now r.raw.now r.after.now n.4),
+        n.3,
+        attr_more rest r.name.now r.raw.now r.after.now more n.4,
+        refl,
+        n.5,
         later,
       ) in
       let P : List Attr → Type 0 = λ l. Attributes [] (all ++ more) l x in
-      subst P (sym (append_assoc done (a ∷ []) attrs)) (r.on more (a ∷ attrs) x whole);
+      subst P (sym (append_assoc done (attr_of r ∷ []) attrs)) (g.on more (attr_of r ∷ attrs) x whole);
   back = λ more attrs empty rest b.
-      let i = r.back more attrs empty rest b in
-      let j = back_one done left n.0 n.1 n.2 after.now a more i.0 empty rest n.3 n.5 n.6 i.2 in
-      (j.0, i.1 ∙ (ap (λ (l : List Attr). done ++ l) j.1 ∙ sym (append_assoc done (a ∷ []) j.0)), j.2);
+      let i = g.back more attrs empty rest b in
+      let j = back_one done left n.0 n.1 r.raw.now r.after.now (attr_of r) more i.0 empty rest n.2 n.4 refl i.2 in
+      (j.0, i.1 ∙ (ap (λ (l : List Attr). done ++ l) j.1 ∙ sym (append_assoc done (attr_of r ∷ []) j.0)), j.2);
 }
 
 pub reading_none : (all : List ℕ) → Reading all [] all
 reading_none all = record { on = λ more attrs x a. a; back = λ more attrs empty rest a. (attrs, refl, a) }
 
-pub reading_more : (all : List ℕ) (done before : List Attr) (left : List ℕ) (next : Next) (a : Attr) (after : Bor (List ℕ)) → Reading all done left →
-    before ≡ done → next ≡ an_attr a after → IsNext before left next → Reading all (done ++ a ∷ []) after.now
-reading_more all done before left next a after r e f n =
-    let P : List Attr → Type 0 = λ l. IsNext l left next in
-    let Q : Next → Type 0 = λ x. IsNext done left x in
-    reading_on all done left a after r (subst Q f (subst P e n))
+pub reading_more : (all : List ℕ) (done : List Attr) (left : List ℕ) (next : Next) (r : RawAttr) → Reading all done left → next ≡ an_attr r → IsNext done left next →
+    Reading all (done ++ attr_of r ∷ []) r.after.now
+reading_more all done left next r g f n = let P : Next → Type 0 = λ x. IsNext done left x in reading_on all done left r g (subst P f n)
 
 -- where the end stands next, the attributes so far are all
-pub reading_end : (all : List ℕ) (done before : List Attr) (left : List ℕ) (next : Next) (end : TagEnd) → Reading all done left →
-    before ≡ done → next ≡ End end → IsNext before left next → Attributes [] all done (tail_of end.empty end.rest.now)
-reading_end all done before left next end r e f n =
-    let P' : List Attr → Type 0 = λ l. IsNext l left next in
+pub reading_end : (all : List ℕ) (done : List Attr) (left : List ℕ) (next : Next) (end : TagEnd) → Reading all done left → next ≡ End end → IsNext done left next →
+    Attributes [] all done (tail_of end.empty end.rest.now)
+reading_end all done left next end r f n =
     let Q' : Next → Type 0 = λ x. IsNext done left x in
-    let n' : IsNext done left (End end) = subst Q' f (subst P' e n) in
+    let n' : IsNext done left (End end) = subst Q' f n in
     let x = tail_of end.empty end.rest.now in
     let P : List ℕ → Type 0 = λ l. Attributes done l [] x in
     let start : Attributes done (left ++ []) [] x = subst P (sym (append-nil left)) n' in

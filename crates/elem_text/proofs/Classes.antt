@@ -1,7 +1,7 @@
 -- Which bytes belong to which class.
-use Rattle.std.proofs.Common.{◌≡◌, ℕ, Bool, true, false, refl, arith, ⊎_elim, sym, ap, ◌∙◌}
+use Rattle.std.proofs.Common.{◌≡◌, ℕ, true, false, refl, arith, ⊎_elim, ap}
 use Rattle.std.proofs.lemmas.Bool.Decides.{nat_tests}
-use Rattle.elem_text.specs.Bytes.{is_white, is_letter, is_name_byte, is_not}
+use Rattle.elem_text.specs.Bytes.{is_white, is_letter, is_name_byte}
 use Rattle.elem_text.specs.Grammar.{IsQuote}
 
 pub white_61 : is_white 61 ≡ false

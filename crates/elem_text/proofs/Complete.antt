@@ -1,12 +1,11 @@
 -- The open elements take what is spelled, what they take can be finished, and what they refuse can't.
-use Rattle.std.proofs.Common.{◌≡◌, ℕ, zero, suc, ◌<◌, ◌≤◌, ◌+◌, ◌-◌, Bool, true, false, List, [], ◌∷◌, ◌++◌, length, refl, sym, ap, subst, ◌∙◌, arith, append-nil, append_assoc, length-append, inl, inr}
-use Rattle.elem_text.specs.declared.elem.Attr.{Attr}
+use Rattle.std.proofs.Common.{◌≡◌, ℕ, ◌≤◌, ◌+◌, ◌-◌, List, [], ◌∷◌, ◌++◌, length, refl, sym, ap, subst, ◌∙◌, arith, append-nil, append_assoc, length-append, inl, inr}
 use Rattle.elem_text.specs.declared.elem.Elem.{Elem}
 use Rattle.elem_text.specs.declared.stack.Frame.{Frame}
-use Rattle.elem_text.specs.Bytes.{AreAll, is_white, first_place}
+use Rattle.elem_text.specs.Bytes.{first_place}
 use Rattle.elem_text.specs.References.{decoded}
 use Rattle.elem_text.specs.Tree.{Piece, opens, closes, hollow, run, skip, Content, nothing, words, passed, leaf, node, elem, joined, AreWhite, IsDocument, Fits}
-use Rattle.elem_text.specs.Stack.{Stack, frame, with_kid, with_text, HasRoom, MayHold, MayClose, IsAllowed, AreAllowed, next, after, closed, close_top, outside, IsFinished, IsUnfinished, IsTooDeepFor, IsShallowFor}
+use Rattle.elem_text.specs.Stack.{Stack, frame, with_kid, with_text, HasRoom, MayHold, IsAllowed, AreAllowed, next, after, closed, close_top, outside, IsUnfinished, IsTooDeepFor, IsShallowFor}
 use Rattle.elem_text.specs.Refusals.{AreShallow}
 use Rattle.elem_text.proofs.Stacks.{grown, grown_none, MayGrow, IsBehind, behind_next, behind_start, content_append, white_append}
 

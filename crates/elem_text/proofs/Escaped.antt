@@ -1,8 +1,8 @@
 -- Escaped text: what it lacks, and that it stands for the text.
-use Rattle.std.proofs.Common.{◌≡◌, ℕ, zero, suc, ◌<◌, ◌≤◌, ◌+◌, Bool, true, false, List, [], ◌∷◌, ◌++◌, length, refl, sym, ap, subst, ◌∙◌, arith, append_assoc, eqb, Some}
+use Rattle.std.proofs.Common.{◌≡◌, ℕ, Bool, true, false, List, [], ◌∷◌, ◌++◌, refl, sym, ap, subst, ◌∙◌, arith, eqb}
 use Rattle.std.proofs.lemmas.Bool.Decides.{nat_tests}
 use Rattle.std.proofs.lemmas.Str.{encode_ascii}
-use Rattle.std.specs.Prelude.{codes, encode_utf8}
+use Rattle.std.specs.Prelude.{codes}
 use Rattle.elem_text.specs.Bytes.{AreAll, is_not}
 use Rattle.elem_text.specs.References.{decoded}
 use Rattle.elem_text.specs.Written.{escape, escaped}
@@ -10,13 +10,13 @@ use Rattle.elem_text.proofs.Spans.{is_not_other}
 use Rattle.elem_text.proofs.Numbered.{ref1, ref3, ref4}
 use Rattle.elem_text.proofs.Flawed.{all_append}
 
-data Escape : ℕ → List ℕ → Type 0 where
+pub data Escape : ℕ → List ℕ → Type 0 where
   angle : Escape 60 (codes "&lt;")
   ampersand : Escape 38 (codes "&amp;")
   quote : Escape 34 (codes "&quot;")
   itself : (b : ℕ) → (b ≡ 60 → ⊥) → (b ≡ 38 → ⊥) → (b ≡ 34 → ⊥) → Escape b (b ∷ [])
 
-is_escape : (b : ℕ) → Escape b (escape b)
+pub is_escape : (b : ℕ) → Escape b (escape b)
 is_escape b = by_tests (eqb b 60) (eqb b 38) (eqb b 34) refl refl refl
   where
     is : (n : ℕ) → eqb b n ≡ true → b ≡ n

@@ -1,5 +1,5 @@
 -- Where a piece of a tag breaks, or is cut off.
-use Rattle.std.proofs.Common.{◌≡◌, ℕ, zero, suc, ◌<◌, ◌≤◌, ◌+◌, Bool, true, false, List, [], ◌∷◌, ◌++◌, length, replicate, refl, sym, ap, subst, ◌∙◌, arith, append-nil, append_assoc, length-append, inl, inr, ◌⊎◌, eqb}
+use Rattle.std.proofs.Common.{◌≡◌, ℕ, zero, suc, ◌<◌, ◌+◌, Bool, true, false, List, [], ◌∷◌, ◌++◌, length, replicate, refl, sym, ap, subst, ◌∙◌, arith, append-nil, append_assoc, length-append, inl, inr, eqb}
 use Rattle.std.proofs.lemmas.List.{length-replicate}
 use Rattle.std.proofs.lemmas.Bool.{false≢true}
 use Rattle.std.proofs.lemmas.Bool.Decides.{nat_tests}
@@ -7,11 +7,10 @@ use Rattle.elem_text.specs.declared.elem.Attr.{Attr}
 use Rattle.elem_text.specs.declared.lex.Flaw.{Flaw}
 use Rattle.elem_text.specs.declared.lex.Flaw.TheVariants.{Cut, Bad, OutOfMemory}
 use Rattle.elem_text.specs.Bytes.{AreAll, Stops, is_white, is_letter, is_name_byte, is_not, IsSpan, IsNamed, BeginsWithLetter}
-use Rattle.elem_text.specs.Grammar.{HasName, IsQuote, IsQuoted, IsAttr}
+use Rattle.elem_text.specs.Grammar.{HasName, IsQuote, IsQuoted}
 use Rattle.elem_text.specs.Flaws.{IsFlawOf, IsEnded, ANamed, ASign, AQuote, AQuoted, AnAttr}
 use Rattle.elem_text.proofs.Classes.{white_61, white_quote, name_61, name_97, letter_97}
 use Rattle.elem_text.proofs.Spans.{heads, tails, same_span, span_more, named_more, begun_by, is_not_same}
-use Rattle.elem_text.proofs.Attrs.{attr_more, quoted_more}
 
 pub flaw_map : (R S : List ℕ → List ℕ → Type 0) (b c : List ℕ) →
     ((more : List ℕ) → 0 < length more → R (b ++ more) [] → (more' : List ℕ) × (0 < length more') × S (c ++ more') []) →

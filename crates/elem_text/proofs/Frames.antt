@@ -1,15 +1,14 @@
 -- The open elements, as the code holds them.
-use Rattle.std.proofs.Common.{◌≡◌, ℕ, zero, suc, ◌<◌, ◌≤◌, ◌+◌, Bool, true, false, List, [], ◌∷◌, ◌++◌, length, refl, sym, ap, subst, ◌∙◌, arith, append-nil, length-append, ◌↔◌, eqb}
+use Rattle.std.proofs.Common.{◌≡◌, ℕ, suc, Bool, true, false, List, [], ◌∷◌, ◌++◌, length, refl, sym, ap, subst, ◌∙◌, arith, append-nil, length-append, ◌↔◌, eqb}
 use Rattle.std.proofs.lemmas.Bool.Decides.{nat_tests}
 use Rattle.std.specs.Prelude.{IsTrue}
 use Rattle.std.proofs.lemmas.Bool.{false≢true}
 use Rattle.elem_text.specs.declared.stack.Frame.{Frame}
-use Rattle.elem_text.specs.declared.stack.Opened.{Opened}
 use Rattle.elem_text.specs.declared.elem.Elem.{Elem}
 use Rattle.elem_text.specs.declared.elem.Attr.{Attr}
 use Rattle.vtr_base.specs.declared.place.Place.{Place}
 use Rattle.elem_text.specs.Bytes.{AreAll, is_white, IsSpan}
-use Rattle.elem_text.specs.Stack.{top_first, HasRoom, MayHold, MayClose, stack_of, Stack, close_top, with_kid, closed, frame}
+use Rattle.elem_text.specs.Stack.{top_first, HasRoom, MayHold, MayClose, stack_of, close_top, with_kid, closed, frame}
 use Rattle.elem_text.proofs.Spans.{same_span}
 
 pub top_first_push : (fs : List Frame) (f : Frame) → top_first (fs ++ f ∷ []) ≡ f ∷ top_first fs

@@ -3,6 +3,7 @@ pub mod Utf8
 pub mod Referred
 pub mod Numbered
 pub mod Attrs
+pub mod Later
 pub mod Comments
 pub mod Frames
 pub mod Stacks
@@ -18,3 +19,6 @@ pub mod Depth
 pub mod Rows
 pub mod Escaped
 pub mod Written
+pub mod WrittenUtf8
+pub mod Parts
+pub mod Writable

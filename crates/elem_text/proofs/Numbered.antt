@@ -1,15 +1,14 @@
 -- References by number and by word: what a reader of them finds.
-use Rattle.std.proofs.Common.{◌≡◌, ℕ, zero, suc, ◌<◌, ◌≤◌, ◌+◌, ◌-◌, ◌^◌, Bool, true, false, List, [], ◌∷◌, ◌++◌, length, take, drop, get_or, refl, sym, ap, subst, ◌∙◌, arith, append_assoc, length-append, Option, Some, None, IsUtf8, ltb, ◌&&◌}
+use Rattle.std.proofs.Common.{◌≡◌, ℕ, zero, suc, ◌<◌, ◌≤◌, ◌+◌, ◌-◌, ◌^◌, Bool, true, false, List, [], ◌∷◌, ◌++◌, length, drop, refl, sym, ap, ◌∙◌, arith, append_assoc, length-append, Option, Some, None, IsUtf8, ltb, ◌&&◌}
 use Rattle.std.proofs.lemmas.List.{drop_at}
 use Rattle.std.proofs.lemmas.Bool.Decides.{nat_tests}
-use Rattle.std.proofs.lemmas.Bool.{false≢true}
 use Rattle.std.proofs.lemmas.Str.{IsUtf8-from_ascii}
 use Rattle.std.specs.Prelude.{codes, MatchOption, IfSome, IsAscii}
 use Rattle.std.specs.Borrow.{Bor}
 use Rattle.std.specs.Char.{digit_value}
 use Rattle.std.specs.Str.Parse.{digits_value, AllDigits, IsNumeral, without_leading_plus}
 use lib.Utf8.{scalar}
-use Rattle.elem_text.specs.Bytes.{AreAll, Stops, IsSpan}
+use Rattle.elem_text.specs.Bytes.{IsSpan}
 use Rattle.elem_text.specs.References.{begins, is_digit_of, reference, Referred, numbered, leading}
 use Rattle.elem_text.proofs.Referred.{begins_spelled, leading_span, all_digits, no_plus}
 

@@ -1,5 +1,5 @@
 -- A file has one element or one place where it breaks, and no file that breaks is spelled or too deep.
-use Rattle.std.proofs.Common.{◌≡◌, ℕ, zero, suc, ◌<◌, ◌≤◌, ◌+◌, Bool, true, false, List, [], ◌∷◌, ◌++◌, length, refl, sym, ap, subst, ◌∙◌, arith, append-nil, append_assoc, length-append, inl, inr, ◌⊎◌}
+use Rattle.std.proofs.Common.{◌≡◌, ℕ, List, [], ◌∷◌, ◌++◌, length, refl, sym, ap, subst, ◌∙◌, arith, append-nil, append_assoc, length-append, inl, inr, ◌⊎◌}
 use Rattle.std.proofs.lemmas.List.{append_cancel_right}
 use Rattle.vtr_base.specs.declared.place.Place.{Place}
 use Rattle.elem_text.specs.declared.elem.Elem.{Elem}
@@ -7,12 +7,11 @@ use Rattle.elem_text.specs.Bytes.{place_after}
 use Rattle.elem_text.specs.Tree.{Piece, IsDocument, Fits}
 use Rattle.elem_text.specs.Grammar.{IsLex, Reads, IsFile, Spells, body, body_place}
 use Rattle.elem_text.specs.Stack.{Stack, outside, after}
-use Rattle.elem_text.specs.Refusals.{IsBad, IsCut, AreShallow, Fails, wrong, unread, cut, short, BreaksFrom, DeepensFrom}
-use Rattle.elem_text.proofs.Spans.{begun_by}
+use Rattle.elem_text.specs.Refusals.{IsBad, AreShallow, Fails, wrong, unread, cut, short, BreaksFrom, DeepensFrom}
 use Rattle.elem_text.proofs.Stacks.{grown}
 use Rattle.elem_text.proofs.Complete.{complete, shallow_front}
 use Rattle.elem_text.proofs.OneLex.{one_lex}
-use Rattle.elem_text.proofs.Along.{lex_front, reads_push}
+use Rattle.elem_text.proofs.Along.{lex_front}
 
 no_lex : (at : Place) (b : List ℕ) (p : Piece) (later : List ℕ) → b ≡ [] → IsLex at b p later → ⊥
 no_lex at b p later e l = let f = lex_front at b p later l in omega (arith, f.some, ap length (sym f.spelled ∙ e), length-append f.front later)

@@ -1,13 +1,13 @@
 -- The bytes begin with one piece, and a tag is the same under more bytes.
-use Rattle.std.proofs.Common.{◌≡◌, ℕ, zero, suc, ◌<◌, ◌≤◌, ◌+◌, Bool, true, false, cond, List, [], ◌∷◌, ◌++◌, length, refl, sym, ap, subst, ◌∙◌, arith, append-nil, append_assoc, length-append, inl, inr, ◌⊎◌, ⊎_elim, Option, Some, None, eqb, ◌&&◌}
+use Rattle.std.proofs.Common.{◌≡◌, ℕ, ◌<◌, Bool, true, false, cond, List, [], ◌∷◌, ◌++◌, length, refl, sym, ap, subst, ◌∙◌, arith, length-append, inl, inr, ◌⊎◌, ⊎_elim, Option, Some, eqb, ◌&&◌}
 use Rattle.std.proofs.lemmas.Bool.{false≢true}
 use Rattle.vtr_base.specs.declared.place.Place.{Place}
 use Rattle.elem_text.specs.declared.elem.Attr.{Attr}
 use Rattle.elem_text.specs.Bytes.{is_white, is_letter, is_name_byte, is_not, IsSpan, IsNamed}
 use Rattle.elem_text.specs.References.{decoded}
 use Rattle.elem_text.specs.Tree.{Piece, opens, closes, hollow, run, skip}
-use Rattle.elem_text.specs.Grammar.{HasName, IsAttr, Attributes, tail_of, IsStartTag, IsEndTag, IsComment, IsInstruction, IsRun, IsLex, behind_comment, behind_instruction}
-use Rattle.elem_text.specs.Flaws.{APiece, IsFlawOf}
+use Rattle.elem_text.specs.Grammar.{IsAttr, Attributes, tail_of, IsStartTag, IsEndTag, IsComment, IsInstruction, IsRun, IsLex, behind_comment, behind_instruction}
+use Rattle.elem_text.specs.Flaws.{APiece}
 use Rattle.elem_text.specs.Refusals.{IsCut}
 use Rattle.elem_text.proofs.Classes.{letter_47, letter_33, letter_63}
 use Rattle.elem_text.proofs.Spans.{heads, tails, same_span, span_more, named_more, begun_by}

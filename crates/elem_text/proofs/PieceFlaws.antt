@@ -1,13 +1,12 @@
 -- Where a comment, an instruction or a tag breaks, or is cut off, as a piece of the file.
-use Rattle.std.proofs.Common.{◌≡◌, ℕ, zero, suc, ◌<◌, ◌≤◌, ◌+◌, Bool, true, false, cond, List, [], ◌∷◌, ◌++◌, length, refl, sym, ap, subst, ◌∙◌, arith, append-nil, append_assoc, length-append, inl, inr, ◌⊎◌, ⊎_elim, Option, Some, None, eqb, ◌&&◌}
+use Rattle.std.proofs.Common.{◌≡◌, ℕ, Bool, true, false, cond, List, [], ◌∷◌, ◌++◌, refl, sym, ap, subst, ◌∙◌, arith, inl, inr, ⊎_elim, Option, Some, None, eqb, ◌&&◌}
 use Rattle.std.proofs.lemmas.Bool.{false≢true}
 use Rattle.elem_text.specs.declared.elem.Attr.{Attr}
 use Rattle.elem_text.specs.declared.lex.Flaw.{Flaw}
 use Rattle.elem_text.specs.declared.lex.Flaw.TheVariants.{Cut, Bad, OutOfMemory}
-use Rattle.vtr_base.specs.declared.place.Place.{Place}
-use Rattle.elem_text.specs.Bytes.{is_letter, is_not, first_place, AreAll, IsNamed}
+use Rattle.elem_text.specs.Bytes.{is_letter, is_not, first_place, IsNamed}
 use Rattle.elem_text.specs.Tree.{Piece, opens, closes, hollow, run, skip}
-use Rattle.elem_text.specs.Grammar.{IsStartTag, IsEndTag, IsComment, IsInstruction, IsRun, IsLex, behind_comment, behind_instruction}
+use Rattle.elem_text.specs.Grammar.{IsStartTag, IsRun, IsLex, behind_comment, behind_instruction}
 use Rattle.elem_text.specs.Flaws.{IsFlawOf, IsEnded, AStartTag, AnEndTag, AComment, AnInstruction, APiece}
 use Rattle.elem_text.proofs.Classes.{letter_47, letter_33, letter_63}
 use Rattle.elem_text.proofs.Spans.{heads, tails, begun_by, is_not_same}

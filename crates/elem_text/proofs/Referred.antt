@@ -1,17 +1,15 @@
 -- References: what a reader of them finds.
-use Rattle.std.proofs.Common.{◌≡◌, ℕ, zero, suc, ◌<◌, ◌≤◌, ◌+◌, ◌-◌, ◌^◌, Bool, true, false, List, [], ◌∷◌, ◌++◌, length, take, drop, get_or, refl, sym, ap, subst, ◌∙◌, arith, append_assoc, length-append, append-nil, Option, Some, None, IsUtf8, eqb, ltb, ◌&&◌}
-use Rattle.std.proofs.lemmas.List.{take_at, drop_at, get_or_at, drop_all}
+use Rattle.std.proofs.Common.{◌≡◌, ℕ, zero, suc, ◌<◌, ◌≤◌, ◌+◌, ◌-◌, Bool, true, false, List, [], ◌∷◌, ◌++◌, length, take, drop, refl, sym, ap, ◌∙◌, arith, append_assoc, length-append, Option, Some, None, eqb, ltb, ◌&&◌}
+use Rattle.std.proofs.lemmas.List.{drop_at}
 use Rattle.std.proofs.lemmas.Bool.Decides.{nat_tests}
 use Rattle.std.proofs.lemmas.Bool.{false≢true, and_parts}
-use Rattle.std.specs.Prelude.{codes, encode_utf8, MatchOption}
+use Rattle.std.specs.Prelude.{encode_utf8, MatchOption}
 use Rattle.std.specs.Borrow.{Bor}
 use Rattle.std.specs.Char.{digit_value}
 use lib.Pointwise.{pointwise}
-use lib.Utf8.{scalar}
-use Rattle.std.specs.Str.Parse.{digits_value, AllDigits, without_leading_plus}
+use Rattle.std.specs.Str.Parse.{AllDigits, without_leading_plus}
 use Rattle.elem_text.specs.Bytes.{AreAll, Stops, IsSpan, is_not}
-use Rattle.elem_text.specs.References.{begins, is_digit_of, reference, Referred, numbered, leading, decoded, decoded_past}
-use Rattle.elem_text.proofs.Utf8.{utf8_behind}
+use Rattle.elem_text.specs.References.{begins, is_digit_of, reference, leading, decoded, decoded_past}
 
 pub decoded_past_is : (n : ℕ) (b : List ℕ) → decoded_past n b ≡ decoded (drop n b)
 decoded_past_is zero b = refl

@@ -1,10 +1,10 @@
 -- An element's text, read off the list of its children.
 use mathlib.Core.Former.{Count}
-use Rattle.std.proofs.Common.{◌≡◌, ℕ, List, [], ◌∷◌, ◌++◌, refl, sym, ap, ◌∙◌, rules, append_assoc}
+use Rattle.std.proofs.Common.{◌≡◌, ℕ, List, ◌∷◌, ◌++◌, refl, sym, ap, ◌∙◌, rules, append_assoc}
 use Rattle.std.specs.List.{flat_map}
 use Rattle.elem_text.specs.declared.elem.Elem.{Elem, Elem', Row_of-Elem, end_of-Elem, more_of-Elem, out-Elem, items-the_row-Elem}
 use Rattle.elem_text.specs.declared.elem.Elem.TheViews.{the_lemmas}
-use Rattle.elem_text.specs.Written.{escape, escaped, attr_text, text_of, texts_of, start_text, end_text}
+use Rattle.elem_text.specs.Written.{escaped, attr_text, text_of, texts_of, start_text, end_text}
 
 pub texts_are : (n : Count) (row : Row_of-Elem n) → texts_of row ≡ flat_map text_of (items-the_row-Elem n row)
 texts_are n (more_of-Elem e rest) = ap (λ l. text_of e ++ l) (texts_are _ rest)

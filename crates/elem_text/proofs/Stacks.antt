@@ -1,13 +1,11 @@
 -- The pieces so far spell the open elements.
-use Rattle.std.proofs.Common.{◌≡◌, ℕ, zero, suc, ◌<◌, ◌≤◌, ◌+◌, Bool, true, false, List, [], ◌∷◌, ◌++◌, length, refl, sym, ap, subst, ◌∙◌, arith, append-nil, append_assoc, length-append}
-use Rattle.vtr_base.specs.declared.place.Place.{Place}
-use Rattle.elem_text.specs.declared.elem.Attr.{Attr}
+use Rattle.std.proofs.Common.{◌≡◌, ℕ, ◌≤◌, List, [], ◌∷◌, ◌++◌, length, refl, sym, ap, subst, ◌∙◌, arith, append-nil, append_assoc, length-append}
 use Rattle.elem_text.specs.declared.elem.Elem.{Elem}
 use Rattle.elem_text.specs.declared.stack.Frame.{Frame}
 use Rattle.elem_text.specs.Bytes.{AreAll, is_white}
 use Rattle.elem_text.specs.References.{decoded}
-use Rattle.elem_text.specs.Tree.{Piece, opens, closes, hollow, run, skip, Content, nothing, words, passed, leaf, node, elem, joined, AreWhite, IsDocument, Fits}
-use Rattle.elem_text.specs.Stack.{Stack, frame, with_kid, with_text, HasRoom, MayHold, MayClose, IsAllowed, AreAllowed, next, after, closed, close_top, outside, IsFinished}
+use Rattle.elem_text.specs.Tree.{Piece, opens, closes, hollow, run, skip, Content, nothing, words, passed, leaf, node, elem, joined, AreWhite, IsDocument}
+use Rattle.elem_text.specs.Stack.{Stack, with_kid, with_text, HasRoom, MayHold, IsAllowed, AreAllowed, next, after, closed, outside, IsFinished}
 
 pub content_append : (ps qs : List Piece) (rs ts : List (List ℕ)) (ks ls : List Elem) → Content ps rs ks → Content qs ts ls → Content (ps ++ qs) (rs ++ ts) (ks ++ ls)
 content_append _ qs _ ts _ ls nothing d = d

@@ -1,17 +1,17 @@
 -- Where a tag breaks, or is cut off.
-use Rattle.std.proofs.Common.{◌≡◌, ℕ, zero, suc, ◌<◌, ◌≤◌, ◌+◌, Bool, true, false, List, [], ◌∷◌, ◌++◌, length, refl, sym, ap, subst, ◌∙◌, arith, append-nil, append_assoc, length-append, inl, inr, ◌⊎◌}
+use Rattle.std.proofs.Common.{◌≡◌, ℕ, Bool, true, false, List, [], ◌∷◌, ◌++◌, refl, sym, ap, subst, ◌∙◌, arith, append_assoc, length-append}
 use Rattle.std.proofs.lemmas.Bool.{false≢true}
 use Rattle.elem_text.specs.declared.elem.Attr.{Attr}
 use Rattle.elem_text.specs.declared.lex.Flaw.{Flaw}
 use Rattle.elem_text.specs.declared.lex.Flaw.TheVariants.{Cut, Bad, OutOfMemory}
-use Rattle.elem_text.specs.Bytes.{AreAll, Stops, is_white, is_letter, is_name_byte, is_not, IsSpan, IsNamed, BeginsWithLetter}
+use Rattle.elem_text.specs.Bytes.{Stops, is_white, is_letter, is_name_byte, IsSpan, IsNamed}
 use Rattle.elem_text.specs.References.{decoded}
-use Rattle.elem_text.specs.Grammar.{HasName, IsAttr, Attributes, tail_of, IsStartTag, IsEndTag}
+use Rattle.elem_text.specs.Grammar.{IsAttr, Attributes, tail_of}
 use Rattle.elem_text.specs.Flaws.{IsFlawOf, IsEnded, IsSlash, NoTail, ANamed, ASign, AnAttr, ATagRest, AStartTag, AnEndTag}
 use Rattle.elem_text.proofs.Classes.{white_62, white_47, name_62, name_47, name_white}
-use Rattle.elem_text.proofs.Spans.{heads, tails, same_span, span_more, named_more, begun_by}
-use Rattle.elem_text.proofs.Attrs.{attr_more, attr_some, attr_stops, attr_letter, Went, went, tail_first, Reading}
-use Rattle.elem_text.proofs.Flawed.{flaw_map, span_join, named_join, named_settled, span_settled, named_begins, white_none, attr_done, named_97, name_ended}
+use Rattle.elem_text.proofs.Spans.{heads, tails, begun_by}
+use Rattle.elem_text.proofs.Attrs.{attr_more, attr_stops, attr_letter, Went, went, tail_first, Reading}
+use Rattle.elem_text.proofs.Flawed.{flaw_map, span_join, named_join, named_settled, white_none, attr_done, named_97}
 
 -- the tag's end stands behind white space
 tail_attrs : (before : List Attr) (b gap r more : List ℕ) (empty : Bool) (rest : List ℕ) → IsSpan is_white b gap r → r ++ more ≡ tail_of empty rest →
@@ -91,13 +91,10 @@ next_by_attr before b gap r s g h f k = flaw_map (AnAttr before) (ATagRest befor
         split [] w = no_tail (x ∷ r) more empty rest h (begun_by x [] r (x ∷ r) refl) w
         split (a ∷ attrs) w = bad more w.1 (a.name, w.0, w.3, w.5)
 
-pub tag_by_next : (all : List ℕ) (done before : List Attr) (left : List ℕ) → Reading all done left → before ≡ done → (f : Flaw) → IsFlawOf (ATagRest before) f left →
-    IsFlawOf (ATagRest []) f all
-tag_by_next all done before left r e f h =
-    let P : List Attr → Type 0 = λ l. IsFlawOf (ATagRest l) f left in
-    flaw_map (ATagRest done) (ATagRest []) left all
+pub tag_by_next : (all : List ℕ) (done : List Attr) (left : List ℕ) → Reading all done left → (f : Flaw) → IsFlawOf (ATagRest done) f left → IsFlawOf (ATagRest []) f all
+tag_by_next all done left r f h = flaw_map (ATagRest done) (ATagRest []) left all
     (λ more l t. (more, l, (done ++ t.0, t.1, r.on more t.0 (tail_of t.1 []) t.2)))
-    (λ bad more rest t. let b = r.back more t.0 t.1 rest t.2 in bad more rest (b.0, t.1, b.2)) f (subst P e h)
+    (λ bad more rest t. let b = r.back more t.0 t.1 rest t.2 in bad more rest (b.0, t.1, b.2)) f h
 
 tag_end_now : ATagRest [] (62 ∷ []) []
 tag_end_now = ([], false, ([], white_none (62 ∷ []) white_62))

@@ -1,9 +1,9 @@
 -- UTF-8 text may be cut before and behind an ASCII byte.
-use Rattle.std.proofs.Common.{◌≡◌, ℕ, zero, suc, ◌<◌, ◌≤◌, ◌+◌, Bool, true, false, List, [], ◌∷◌, ◌++◌, length, take, drop, get_or, refl, sym, ap, subst, ◌∙◌, arith, append_assoc, length-append, append-nil, IsUtf8, IsAscii, ⊎_elim}
+use Rattle.std.proofs.Common.{◌≡◌, ℕ, zero, suc, ◌<◌, Bool, true, false, List, [], ◌∷◌, ◌++◌, length, refl, sym, ap, subst, ◌∙◌, arith, length-append, append-nil, IsUtf8, IsAscii, ⊎_elim}
 use Rattle.std.proofs.lemmas.Bool.Decides.{nat_tests}
 use Rattle.elem_text.specs.Bytes.{IsSpan, IsNamed, AreAll, Stops, is_not, is_white, is_letter, is_name_byte}
 use lib.Utf8
-use Rattle.elem_text.specs.Grammar.{IsAttr, IsQuoted, IsQuote, IsEndTag, IsComment, IsInstruction, tail_of}
+use Rattle.elem_text.specs.Grammar.{IsAttr, IsQuoted, IsEndTag, IsComment, IsInstruction, tail_of}
 use Rattle.elem_text.proofs.Comments.{comment_ends, instruction_ends}
 use Rattle.std.proofs.lemmas.List.{take_at, drop_at, get_or_at}
 use Rattle.std.proofs.lemmas.Str.{IsUtf8-take, IsUtf8-drop, IsUtf8-nil, IsUtf8-from_ascii, IsCharBoundary-before_ascii, IsCharBoundary-after_ascii, IsUtf8-past_char}

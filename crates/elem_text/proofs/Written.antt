@@ -1,24 +1,26 @@
 -- What is written reads back.
 use mathlib.Core.Former.{Count}
-use Rattle.std.proofs.Common.{◌≡◌, ℕ, zero, suc, ◌<◌, ◌≤◌, ◌+◌, ◌-◌, max, Bool, true, false, List, [], ◌∷◌, ◌++◌, length, refl, sym, ap, subst, ◌∙◌, arith, append-nil, append_assoc, length-append, inl, inr, map, rules, IsUtf8}
+use Rattle.std.proofs.Common.{◌≡◌, ℕ, ◌<◌, ◌≤◌, ◌+◌, ◌-◌, false, List, [], ◌∷◌, ◌++◌, refl, sym, ap, subst, ◌∙◌, arith, append-nil, append_assoc, inl, map, rules, IsUtf8, Result, Ok, Err, IfOk, IfErr}
 use Rattle.std.specs.List.{flat_map}
 use Rattle.vtr_base.specs.declared.place.Place.{Place}
 use Rattle.elem_text.specs.declared.elem.Attr.{Attr}
-use Rattle.elem_text.specs.declared.elem.Elem.{Elem, Elem', Row_of-Elem, end_of-Elem, more_of-Elem, out-Elem, roll-Elem, items-the_row-Elem}
+use Rattle.elem_text.specs.declared.elem.Elem.{Elem, Elem', Row_of-Elem, end_of-Elem, more_of-Elem, out-Elem, items-the_row-Elem}
 use Rattle.elem_text.specs.declared.elem.Elem.TheViews.{the_lemmas}
-use Rattle.elem_text.specs.Bytes.{is_white, is_name_byte, is_not, IsSpan, IsNamed, IsName, Stops, place_after, first_place}
+use Rattle.elem_text.specs.Bytes.{is_white, is_name_byte, IsName, Stops, place_after, first_place}
 use Rattle.elem_text.specs.References.{decoded}
-use Rattle.elem_text.specs.Tree.{Piece, opens, closes, hollow, run, skip, Content, nothing, words, passed, leaf, node, elem, joined, IsDocument}
-use Rattle.elem_text.specs.Grammar.{HasName, IsAttr, Attributes, IsStartTag, IsEndTag, IsLex, Reads, IsFile, Spells, has_mark, body, body_place}
-use Rattle.elem_text.specs.Refusals.{AreShallow, IsTooDeep, DeepensFrom}
-use Rattle.elem_text.specs.Written.{escape, escaped, attr_text, text_of, texts_of, end_text, HaveOwnNames, HasNames, HaveNames, depth, depth_below, bare, all_bare}
+use Rattle.elem_text.specs.Tree.{Piece, opens, closes, hollow, run, skip, Content, nothing, words, node, elem, joined}
+use Rattle.elem_text.specs.Grammar.{IsAttr, Attributes, IsStartTag, IsEndTag, Reads, IsFile, Spells, has_mark, body, body_place}
+use Rattle.elem_text.specs.declared.error.ElemError.{ElemError}
+use Rattle.elem_text.specs.declared.error.ElemError.TheVariants.{NotUtf8, Deep, Broken, OutOfMemory}
+use Rattle.elem_text.specs.Refusals.{AreShallow, DeepensFrom, Refuses}
+use Rattle.elem_text.specs.Written.{escaped, attr_text, text_of, texts_of, HaveOwnNames, HasNames, HaveNames, depth, depth_below, bare, all_bare, IsReadAs, IsWritable}
 use Rattle.elem_text.proofs.Classes.{white_61, white_62, white_32, white_quote, white_letter, name_61, name_62, name_white}
 use Rattle.elem_text.proofs.Spans.{is_not_same, begun_by}
 use Rattle.elem_text.proofs.Flawed.{white_none}
 use Rattle.elem_text.proofs.Stacks.{content_append}
 use Rattle.elem_text.proofs.Complete.{level, shallow_push}
 use Rattle.elem_text.proofs.Escaped.{decoded_escaped, escaped_no_angle, escaped_no_quote, escaped_some}
-use Rattle.elem_text.proofs.OneAnswer.{shallow_not_deep}
+use Rattle.elem_text.proofs.OneAnswer.{shallow_not_deep, one_element, breaks_or_spelled}
 use Rattle.elem_text.proofs.Rows.{text_is}
 
 name_not_white : (n r : List ℕ) → IsName n → Stops is_white (n ++ r)
@@ -99,7 +101,7 @@ reads_append at b [] mid r qs end rest p q =
     subst P p.0 (subst Q p.1 q)
 reads_append at b (x ∷ ps) mid r qs end rest p q = (p.0, p.1, p.2, p.3, reads_append (place_after at p.0) p.1 ps mid r qs end rest p.4 q)
 
-level_append : (n : ℕ) (ps qs : List Piece) → level n (ps ++ qs) ≡ level (level n ps) qs
+pub level_append : (n : ℕ) (ps qs : List Piece) → level n (ps ++ qs) ≡ level (level n ps) qs
 level_append n [] qs = refl
 level_append n (opens name attrs at ∷ ps) qs = level_append (n + 1) ps qs
 level_append n (hollow name attrs at ∷ ps) qs = level_append n ps qs
@@ -256,18 +258,33 @@ no_mark (b ∷ c ∷ t) = refl
 plain_body : (b t : List ℕ) → b ≡ 60 ∷ t → has_mark b ≡ false
 plain_body b t e = ap has_mark e ∙ no_mark t
 
-pub reads_back : (e : Elem) → HasNames e → depth e ≤ 64 → IsUtf8 (text_of e) → (e' : Elem) × Spells (text_of e) e' × (bare e' ≡ bare e) × (IsTooDeep (text_of e) → ⊥)
-reads_back e h d u =
-    let b : Back first_place 0 (text_of e) (bare e) [] = back e first_place 0 [] h (omega (arith, d)) in
+pub reads_back : (e : Elem) → IsWritable e → IsUtf8 (text_of e) → IsReadAs (text_of e) e
+reads_back e w u =
+    let b : Back first_place 0 (text_of e) (bare e) [] = back e first_place 0 [] w.names (omega (arith, w.depth)) in
     let P : List ℕ → Type 0 = λ x. Reads first_place x b.ps b.end [] in
     let r : Reads first_place (text_of e) b.ps b.end [] = subst P (append-nil (text_of e)) b.reads in
     let m : has_mark (text_of e) ≡ false = plain_body (text_of e) _ (text_is e) in
     let f : IsFile first_place (text_of e) b.read = record { ps = b.ps; end = b.end; reads = r; document = record { around = []; white = tt; content = b.content } } in
-    let file : IsFile (body_place (text_of e)) (body (text_of e)) b.read = rw m f in (
-      b.read,
-      record { utf8 = u; file = file },
-      b.same,
-      λ deep.
-          let deep' : DeepensFrom first_place (text_of e) = rw m at deep in
-          shallow_not_deep first_place (text_of e) b.ps b.end r b.shallow deep',
-    )
+    let file : IsFile (body_place (text_of e)) (body (text_of e)) b.read = rw m f in
+    record {
+      read = b.read;
+      spelled = record { utf8 = u; file = file };
+      same = b.same;
+      shallow = λ deep. let deep' : DeepensFrom first_place (text_of e) = rw m at deep in shallow_not_deep first_place (text_of e) b.ps b.end r b.shallow deep';
+    }
+
+-- whatever the text of an element is read as is that element, places aside
+pub same_back : (e : Elem) (bytes : List ℕ) (r : Result Elem ElemError) → bytes ≡ text_of e → IsReadAs (text_of e) e → IfOk r (λ x. Spells bytes x) → IfOk r (λ x. bare x ≡ bare e)
+same_back e bytes (Ok x) t b s = let P : List ℕ → Type 0 = λ l. Spells l x in ap bare (one_element (text_of e) x b.read (subst P t s) b.spelled) ∙ b.same
+same_back e bytes (Err x) t b s = tt
+
+-- and only want of memory keeps it from being read
+only_memory : (e : Elem) (x : ElemError) → IsReadAs (text_of e) e → Refuses (text_of e) x → x ≡ OutOfMemory
+only_memory e NotUtf8 b r = absurd (r b.spelled.utf8)
+only_memory e Deep b r = absurd (b.shallow r.1)
+only_memory e (Broken place) b r = absurd (breaks_or_spelled (text_of e) place b.read r.1 b.spelled)
+only_memory e OutOfMemory b r = refl
+
+pub not_back : (e : Elem) (bytes : List ℕ) (r : Result Elem ElemError) → bytes ≡ text_of e → IsReadAs (text_of e) e → IfErr r (λ x. Refuses bytes x) → IfErr r (λ x. x ≡ OutOfMemory)
+not_back e bytes (Ok x) t b s = tt
+not_back e bytes (Err x) t b s = let P : List ℕ → Type 0 = λ l. Refuses l x in only_memory e x b (subst P t s)

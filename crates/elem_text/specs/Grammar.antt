@@ -1,9 +1,9 @@
 -- The grammar of element text: bytes to pieces, and a file to its root element.
-use Rattle.std.specs.Prelude.{◌≡◌, ◌≢◌, ◌<◌, ◌==◌, ◌&&◌, ◌⊎◌, ℕ, Bool, true, false, cond, if◌then◌else◌, List, [], ◌∷◌, ◌++◌, length, drop, take, Option, Some, None, IsUtf8}
+use Rattle.std.specs.Prelude.{◌≡◌, ◌≢◌, ◌==◌, ◌&&◌, ◌⊎◌, ℕ, Bool, true, false, if◌then◌else◌, List, [], ◌∷◌, ◌++◌, drop, Option, Some, None, IsUtf8}
 use Rattle.vtr_base.specs.declared.place.Place.{Place}
 use Rattle.elem_text.specs.declared.elem.Attr.{Attr}
 use Rattle.elem_text.specs.declared.elem.Elem.{Elem}
-use Rattle.elem_text.specs.Bytes.{is_white, is_name_byte, is_not, IsSpan, IsNamed, place_after, first_place}
+use Rattle.elem_text.specs.Bytes.{is_white, is_not, IsSpan, IsNamed, place_after, first_place}
 use Rattle.elem_text.specs.References.{decoded}
 use Rattle.elem_text.specs.Tree.{Piece, opens, closes, hollow, run, skip, IsDocument}
 

@@ -1,9 +1,8 @@
 -- The piece that a piece read stands for.
-use Rattle.std.specs.Prelude.{ℕ, List, IsUtf8}
+use Rattle.std.specs.Prelude.{IsUtf8}
 use Rattle.vtr_base.specs.declared.place.Place.{Place}
 use Rattle.elem_text.specs.declared.lex.Lex.{Lex}
 use Rattle.elem_text.specs.declared.lex.Lex.TheVariants.{Opens, Hollow, Closes, Run, Skip}
-use Rattle.elem_text.specs.declared.elem.Attr.{Attr}
 use Rattle.elem_text.specs.Tree.{Piece, opens, closes, hollow, run, skip}
 
 abbrev pub lexed : Place → Lex → Piece

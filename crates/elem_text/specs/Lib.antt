@@ -3,6 +3,7 @@ pub mod References
 pub mod Tree
 pub mod Grammar
 pub mod Lexed
+pub mod Later
 pub mod Next
 pub mod Stack
 pub mod Flaws

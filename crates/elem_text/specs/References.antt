@@ -1,6 +1,6 @@
 -- What stands for a character in text and in values: '&lt;' and its kin, '&#N;' and '&#xH;'. Any
 -- other ampersand stands for itself.
-use Rattle.std.specs.Prelude.{◌≡◌, ◌+◌, ◌-◌, ◌==◌, ◌&&◌, ◌||◌, ℕ, zero, suc, Bool, true, false, not, nat_lt, nat_le, cond, if◌then◌else◌, List, [], ◌∷◌, ◌++◌, length, drop, slice_index, take_while, Option, Some, None, codes, encode_utf8, flat_map}
+use Rattle.std.specs.Prelude.{◌+◌, ◌==◌, ◌&&◌, ℕ, zero, suc, Bool, true, false, nat_lt, cond, if◌then◌else◌, List, [], ◌∷◌, ◌++◌, length, drop, Option, Some, None, codes, encode_utf8}
 use lib.Utf8.{scalar}
 use Rattle.std.specs.Char.{digit_value}
 use Rattle.std.specs.Str.Parse.{digits_value}

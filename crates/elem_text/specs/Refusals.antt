@@ -1,7 +1,6 @@
 -- When a file has no element: it isn't UTF-8, it breaks somewhere, or it is nested too deep.
 use Rattle.std.specs.Prelude.{◌≡◌, ◌≢◌, ◌<◌, ◌+◌, ◌-◌, ℕ, List, [], ◌∷◌, ◌++◌, length, IsUtf8}
 use Rattle.vtr_base.specs.declared.place.Place.{Place}
-use Rattle.elem_text.specs.declared.elem.Attr.{Attr}
 use Rattle.elem_text.specs.declared.elem.Elem.{Elem}
 use Rattle.elem_text.specs.declared.error.ElemError.{ElemError}
 use Rattle.elem_text.specs.declared.error.ElemError.TheVariants.{NotUtf8, Deep, Broken, OutOfMemory}

@@ -1,5 +1,5 @@
 -- The text that an element is written as.
-use Rattle.std.specs.Prelude.{◌≤◌, suc, max, IsUtf8, ◌≡◌, ◌==◌, ℕ, cond, if◌then◌else◌, List, [], ◌∷◌, ◌++◌, codes, flat_map}
+use Rattle.std.specs.Prelude.{◌≤◌, suc, max, ◌≡◌, ◌==◌, ℕ, if◌then◌else◌, List, [], ◌∷◌, ◌++◌, codes, flat_map}
 use Rattle.elem_text.specs.Bytes.{IsName, first_place}
 use Rattle.elem_text.specs.Tree.{elem}
 use Rattle.elem_text.specs.Grammar.{HasName, Spells}
@@ -67,7 +67,22 @@ abbrev mutual
   all_bare end_of-Elem = []
   all_bare (more_of-Elem e rest) = bare e ∷ all_bare rest
 
--- an element's text, which is UTF-8 since all its texts are, reads back to the element, places aside
-abbrev pub ReadsBack : Type 0
-ReadsBack = (e : Elem) → HasNames e → depth e ≤ 64 → IsUtf8 (text_of e) →
-    (e' : Elem) × Spells (text_of e) e' × (bare e' ≡ bare e) × (IsTooDeep (text_of e) → ⊥)
+-- a front of the text was appended to the old bytes
+pub record IsPart (old text new : List ℕ) : Type 0 where
+  pub front : List ℕ
+  pub rest : List ℕ
+  pub whole : text ≡ front ++ rest
+  pub appended : new ≡ old ++ front
+
+-- the text spells an element that is this one but for its places, and nothing in it is too deep
+pub record IsReadAs (text : List ℕ) (e : Elem) : Type 0 where
+  pub read : Elem
+  pub spelled : Spells text read
+  pub same : bare read ≡ bare e
+  pub shallow : IsTooDeep text → ⊥
+
+-- what an element has to meet for its text to read back: its names are names, the names of the
+-- attributes of one element differ, and it is at most 64 levels deep
+pub record IsWritable (e : Elem) : Type 0 where
+  pub names : HasNames e
+  pub depth : depth e ≤ 64

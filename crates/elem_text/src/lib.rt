@@ -12,6 +12,7 @@ mod pieces;
 mod reader;
 mod references;
 mod stack;
+mod tag_attrs;
 mod tags;
 #[cfg(test)]
 mod tests;
@@ -19,6 +20,6 @@ mod writer;
 
 pub use elem::{Attr, Elem};
 pub use error::ElemError;
-pub use laws::{law_of_the_writer, laws_of_the_grammar};
+pub use laws::{laws_of_the_grammar, read_back};
 pub use reader::read_elems;
 pub use writer::write_elem;

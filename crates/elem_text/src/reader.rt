@@ -2,6 +2,7 @@ ghost use Rattle.std.specs.Prelude.{◌≡◌, ◌∷◌, ◌++◌, ◌<◌, ℕ
 ghost use Rattle.elem_text.specs.Grammar.{IsFile, Spells, has_mark};
 ghost use Rattle.elem_text.specs.Lexed.{lexed, IsUtf8Lex};
 ghost use Rattle.elem_text.specs.Refusals.{IsTooDeep, DeepensFrom, Refuses, RefusesFrom, TellsFlaw, TellsRefusal};
+ghost use Rattle.elem_text.specs.Written.{IsWritable};
 ghost use Rattle.elem_text.specs.Stack.{stack_of, IsAllowed, IsTooDeepFor, IsShallowFor, next};
 
 use crate::bytes::{byte, place_after};
@@ -13,10 +14,11 @@ use crate::stack::{Opened, Refusal};
 use std::alloc::Global;
 use vtr_base::Place;
 
-/// The root element of a file of element text.
+/// The root element of a file of element text. `write_elem` can write it: its text reads back.
 pub fn read_elems(alloc: Global, bytes: &[u8]) -> Result<Elem, ElemError>
     ensures found { IfOk result (λ e. Spells bytes.now e) }
     ensures shallow { OnOk result (IsTooDeep bytes.now → ⊥) }
+    ensures writable { IfOk result (λ e. IsWritable e) }
     ensures refused { IfErr result (λ e. Refuses bytes.now e) }
 {
     let Ok(_) = str::from_utf8(bytes) else {
@@ -46,6 +48,7 @@ fn read_body(alloc: Global, bytes: &[u8], start: Place) -> Result<Elem, ElemErro
     requires { IsUtf8 bytes.now }
     ensures found { IfOk result (λ e. IsFile start bytes.now e) }
     ensures shallow { OnOk result (DeepensFrom start bytes.now → ⊥) }
+    ensures writable { IfOk result (λ e. IsWritable e) }
     ensures refused { IfErr result (λ e. RefusesFrom start bytes.now e) }
 {
     let mut opened = Opened::new(alloc);

@@ -5,15 +5,14 @@ ghost use Rattle.elem_text.specs.References.{decoded};
 ghost use Rattle.elem_text.specs.Grammar.{HasName, IsQuote, IsQuoted, IsAttr, Attributes, tail_of, IsStartTag, IsEndTag, IsLex};
 ghost use Rattle.elem_text.specs.Lexed.{lexed, IsUtf8Lex};
 ghost use Rattle.elem_text.specs.Flaws.{IsFlawOf, IsEnded, ANamed, AQuote, AQuoted, ASign, AnAttr, ATagRest, AStartTag, AnEndTag, IsSlash, NoTail};
-ghost use Rattle.elem_text.specs.Next.{IsNext, behind_next};
+ghost use Rattle.elem_text.specs.Next.{IsNext, IsUtf8Next};
 
 use crate::bytes::{begins_with_letter, byte, until, white, word};
 use crate::elem::Attr;
 use crate::lex::{Flaw, Lex};
-use crate::references::{decode, kept};
+use crate::tag_attrs::{RawAttr, TagAttrs};
 use sqlite_items::Items;
-use std::alloc::{AllocError, Global};
-use vtr_base::Text;
+use std::alloc::Global;
 
 /// Which flaw it is that a byte is missing before `bytes`.
 pub fn ended(bytes: &[u8]) -> Flaw
@@ -77,16 +76,8 @@ fn sign(bytes: &[u8], b: u8) -> Result<&[u8], Flaw>
     Ok(after)
 }
 
-/// An attribute as it stands in the file, and what follows it.
-#[derive(Drop)]
-struct RawAttr<'a> {
-    name: &'a [u8],
-    raw: &'a [u8],
-    after: &'a [u8],
-}
-
 /// The attribute at the front, whose name none of `before` has.
-fn attr<'a>(bytes: &'a [u8], before: &[Attr]) -> Result<RawAttr<'a>, Flaw>
+fn attr<'a>(bytes: &'a [u8], before: &TagAttrs<'a>) -> Result<RawAttr<'a>, Flaw>
     ensures whole { IfOk result (λ r. IsAttr bytes.now r.name.now r.raw.now r.after.now) }
     ensures own { IfOk result (λ r. HasName before.now r.name.now → ⊥) }
     ensures flaw { IfErr result (λ f. IsFlawOf (AnAttr before.now) f bytes.now) }
@@ -95,25 +86,13 @@ fn attr<'a>(bytes: &'a [u8], before: &[Attr]) -> Result<RawAttr<'a>, Flaw>
     if rest.is_empty() {
         return Err(Flaw::Cut);
     }
-    if stands(before, name) {
+    if before.has(name) {
         return Err(Flaw::Bad);
     }
     let rest = sign(rest, b'=')?;
     let (_, rest) = white(rest);
     let (raw, after) = quoted(rest)?;
     Ok(RawAttr { name, raw, after })
-}
-
-/// Whether one of the attributes has this name.
-fn stands(attrs: &[Attr], name: &[u8]) -> bool
-    ensures { IsTrue result ↔ HasName attrs.now name.now }
-{
-    for attr in attrs {
-        if attr.name.is(name) {
-            return true;
-        }
-    }
-    false
 }
 
 /// How a tag ends, and what follows it.
@@ -141,18 +120,18 @@ fn tag_end(bytes: &[u8]) -> Result<Option<TagEnd<'_>>, Flaw>
     Ok(Some(TagEnd { empty: true, rest }))
 }
 
-/// What stands next in a start tag: its end, or an attribute and what follows that.
+/// What stands next in a start tag: its end, or an attribute.
 #[derive(Drop)]
 pub enum Next<'a> {
     End(TagEnd<'a>),
-    Attr(Attr, &'a [u8]),
+    Attr(RawAttr<'a>),
 }
 
 /// What stands behind the attributes `before`, and behind white space.
-fn next_in_tag<'a>(alloc: Global, bytes: &'a [u8], before: &[Attr]) -> Result<Next<'a>, Flaw>
+fn next_in_tag<'a>(bytes: &'a [u8], before: &TagAttrs<'a>) -> Result<Next<'a>, Flaw>
     requires { IsUtf8 bytes.now }
     ensures whole { IfOk result (λ n. IsNext before.now bytes.now n) }
-    ensures utf8 { IfOk result (λ n. IsUtf8 (behind_next n)) }
+    ensures utf8 { IfOk result (λ n. IsUtf8Next n) }
     ensures flaw { IfErr result (λ f. IsFlawOf (ATagRest before.now) f bytes.now) }
 {
     let (gap, rest) = white(bytes);
@@ -162,10 +141,7 @@ fn next_in_tag<'a>(alloc: Global, bytes: &'a [u8], before: &[Attr]) -> Result<Ne
     if gap.is_empty() {
         return Err(ended(rest));
     }
-    let found = attr(rest, before)?;
-    let name = kept(alloc, found.name)?;
-    let value = decode(alloc, found.raw)?;
-    Ok(Next::Attr(Attr { name, value }, found.after))
+    Ok(Next::Attr(attr(rest, before)?))
 }
 
 /// The attributes of a start tag, and how it ends.
@@ -182,14 +158,17 @@ fn tag_rest(alloc: Global, bytes: &[u8]) -> Result<TagRest<'_>, Flaw>
     ensures utf8 { IfOk result (λ r. IsUtf8 r.end.rest.now) }
     ensures flaw { IfErr result (λ f. IsFlawOf (ATagRest []) f bytes.now) }
 {
-    let mut attrs = Items::new(alloc);
+    let mut attrs = TagAttrs::new(alloc);
     let mut left = bytes;
     'attrs: loop {
-        match next_in_tag(alloc, left, attrs.as_slice())? {
-            Next::End(end) => return Ok(TagRest { attrs, end }),
-            Next::Attr(attr, after) => {
-                attrs.push(attr)?;
-                left = after;
+        match next_in_tag(left, &attrs)? {
+            Next::End(end) => {
+                let attrs = attrs.into_attrs();
+                return Ok(TagRest { attrs, end });
+            }
+            Next::Attr(attr) => {
+                left = attr.after;
+                attrs = attrs.with(alloc, attr)?;
             }
         }
     }

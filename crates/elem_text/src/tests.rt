@@ -1,4 +1,6 @@
+use crate::elem::Elem;
 use crate::error::ElemError;
+use crate::laws::{laws_of_the_grammar, read_back};
 use crate::reader::read_elems;
 use crate::writer::write_elem;
 use std::alloc::{AllocError, Global};
@@ -6,6 +8,10 @@ use std::alloc::{AllocError, Global};
 /// A small architecture with one block.
 const ONE: &[u8] =
     b"<architecture><complexblocklist><pb_type name=\"blk\">\n<input name=\"i\" num_pins=\"2\"/><output name=\"o\" num_pins=\"1\"/>\n<pb_type name=\"lut\" num_pb=\"1\" blif_model=\".names\" class=\"lut\">\n<input name=\"in\" num_pins=\"1\"/><output name=\"out\" num_pins=\"1\"/></pb_type>\n<interconnect><mux name=\"m\" input=\"blk.i[0] blk.i[1]\" output=\"lut.in\"/>\n<direct name=\"d\" input=\"lut.out\" output=\"blk.o\"/></interconnect>\n</pb_type></complexblocklist></architecture>\n";
+
+/// How the element of `ONE` is written: with each text before the children and every tag closed.
+const ONE_WRITTEN: &[u8] =
+    b"<architecture><complexblocklist><pb_type name=\"blk\">\n\n\n\n<input name=\"i\" num_pins=\"2\"></input><output name=\"o\" num_pins=\"1\"></output><pb_type name=\"lut\" num_pb=\"1\" blif_model=\".names\" class=\"lut\">\n<input name=\"in\" num_pins=\"1\"></input><output name=\"out\" num_pins=\"1\"></output></pb_type><interconnect>\n<mux name=\"m\" input=\"blk.i[0] blk.i[1]\" output=\"lut.in\"></mux><direct name=\"d\" input=\"lut.out\" output=\"blk.o\"></direct></interconnect></pb_type></complexblocklist></architecture>";
 
 /// An architecture with two tiles and a layout.
 const TINY: &[u8] =
@@ -112,17 +118,72 @@ fn sixty_four_levels(rt: HostRuntime) -> Result<(), AllocError> {
     Ok(())
 }
 
+/// Where text ends that begins a file.
+fn end_of(text: &[u8]) -> Want {
+    let mut line = 1u32;
+    let mut byte = 1u32;
+    for b in text {
+        if *b == b'\n' {
+            line = line.saturating_add(1);
+            byte = 0;
+        }
+        byte = byte.saturating_add(1);
+    }
+    Want::Broken(line, byte)
+}
+
 #[test]
 fn cut_anywhere(rt: HostRuntime) {
     for n in 0..TINY.len() {
         let file = &TINY[..n];
-        let answered = answer(rt.alloc(), file);
-        if n + 1 < TINY.len() {
-            assert!(&rt; matches!(answered, Some(Want::Broken(_, _))));
+        let want = if n + 1 < TINY.len() {
+            end_of(file)
         } else {
-            assert!(&rt; answered == Some(Want::Element));
-        }
+            Want::Element
+        };
+        assert!(&rt; answer(rt.alloc(), file) == Some(want));
     }
+}
+
+#[test]
+fn many_attributes(rt: HostRuntime) {
+    let rows: [(&[u8], Want); 4] = [
+        (
+            b"<t a='' b='' c='' d='' e='' f='' g='' h='' i='' j='' k=''/>",
+            Want::Element,
+        ),
+        (
+            b"<t a='' b='' c='' d='' e='' f='' g='' h='' i='' j='' a=''/>",
+            Want::Broken(1, 1),
+        ),
+        (
+            b"<t a='' b='' c='' d='' e='' f='' g='' h='' i='' j='' h=''/>",
+            Want::Broken(1, 1),
+        ),
+        (
+            b"<t a='' b='' c='' d='' e='' f='' g='' h='' i='' j='' i=''/>",
+            Want::Broken(1, 1),
+        ),
+    ];
+    for (file, want) in rows {
+        assert!(&rt; answer(rt.alloc(), file) == Some(want));
+    }
+}
+
+#[test]
+fn reads_what_it_wrote(rt: HostRuntime) -> Result<(), ElemError> {
+    let root = read_elems(rt.alloc(), ONE)?;
+    assert!(&rt; written(rt.alloc(), &root)?.as_slice() == ONE_WRITTEN);
+    let back = read_back(rt.alloc(), &root)?;
+    assert!(&rt; written(rt.alloc(), &back)?.as_slice() == ONE_WRITTEN);
+    Ok(())
+}
+
+/// An element as text.
+fn written(alloc: Global, elem: &Elem) -> Result<Vec<u8>, AllocError> {
+    let mut text = Vec::new(alloc);
+    write_elem(&mut text, elem)?;
+    Ok(text)
 }
 
 #[test]
@@ -144,10 +205,18 @@ fn values_and_text(rt: HostRuntime) -> Result<(), ElemError> {
 }
 
 #[test]
+fn references_of_each_kind(rt: HostRuntime) -> Result<(), ElemError> {
+    laws_of_the_grammar();
+    let file = b"<a>&lt;&gt;&amp;&quot;&apos;&#228;&#x1F600;&#xe4;&lt &am<!-- -->p;</a>";
+    let root = read_elems(rt.alloc(), file)?;
+    assert!(&rt; root.text.as_str() == "<>&\"'\u{e4}\u{1f600}\u{e4}&lt &amp;");
+    Ok(())
+}
+
+#[test]
 fn writes_with_references(rt: HostRuntime) -> Result<(), ElemError> {
     let root = read_elems(rt.alloc(), b"<a b='1\"&amp;' >x &lt;<c/>\n</a>")?;
-    let mut text = Vec::new(rt.alloc());
-    write_elem(&mut text, &root)?;
+    let text = written(rt.alloc(), &root)?;
     assert!(&rt; text.as_slice() == b"<a b=\"1&quot;&amp;\">x &lt;\n<c></c></a>".as_slice());
     Ok(())
 }

@@ -1,4 +1,3 @@
-use Rattle.std.proofs.Common.{◌≡◌, sym, ◌∙◌, arith}
 use Rattle.elem_text.proofs.Spans.{all_more, is_not_other}
 use Rattle.elem_text.proofs.bytes.until.Goals as goal
 

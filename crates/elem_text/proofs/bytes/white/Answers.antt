@@ -1,4 +1,4 @@
-use Rattle.std.proofs.Common.{◌≡◌, sym, ◌∙◌, arith}
+use Rattle.std.proofs.Common.{sym, ◌∙◌}
 use Rattle.elem_text.proofs.Spans.{all_more}
 use Rattle.elem_text.proofs.bytes.white.Goals as goal
 

@@ -1,5 +1,5 @@
 use Rattle.std.proofs.Common.{take}
-use Rattle.elem_text.specs.Bytes.{is_white, is_name_byte, is_not, AreAll}
+use Rattle.elem_text.specs.Bytes.{is_white, AreAll}
 use Rattle.elem_text.proofs.bytes.white.Given as goal
 
 abbrev pub invariant-loop-n : goal.invariant-loop-n

@@ -1,4 +1,4 @@
-use Rattle.std.proofs.Common.{◌≡◌, sym, ◌∙◌, arith}
+use Rattle.std.proofs.Common.{sym, ◌∙◌, arith}
 use Rattle.elem_text.proofs.Comments.{instruction_end}
 use Rattle.elem_text.proofs.pieces.behind_instruction.Goals as goal
 

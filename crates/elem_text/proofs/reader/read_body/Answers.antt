@@ -1,7 +1,8 @@
-use Rattle.std.proofs.Common.{Err, ◌≡◌, ◌<◌, ap, sym, ◌∙◌, arith, length, length-append}
+use Rattle.std.proofs.Common.{Err, ap, sym, ◌∙◌, arith, length, length-append}
 use Rattle.elem_text.proofs.Spans.{nothing_in}
 use Rattle.elem_text.proofs.Along.{lex_front, along_next, along_found, along_flaw, along_refused, along_short}
 use Rattle.elem_text.proofs.Depth.{along_shallow}
+use Rattle.elem_text.proofs.Writable.{along_writable}
 use Rattle.elem_text.proofs.reader.read_body.Goals as goal
 
 pub front_of-requires : goal.front_of-requires
@@ -41,3 +42,6 @@ returns-in-None-clause-refused c =
 pub returns-in-Some-clause-shallow : goal.returns-in-Some-clause-shallow
 returns-in-Some-clause-shallow c =
     along_shallow _ _ _ _ _ c.loop-rest.invariant.along (nothing_in _ (sym c.is_empty.ensures ∙ c.loop-rest-test.false))
+
+pub returns-in-Some-clause-writable : goal.returns-in-Some-clause-writable
+returns-in-Some-clause-writable c = along_writable _ _ _ _ _ _ c.loop-rest.invariant.along c.in-Some.ensures

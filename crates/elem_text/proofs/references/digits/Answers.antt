@@ -1,4 +1,4 @@
-use Rattle.std.proofs.Common.{◌≡◌, sym, ap, ◌∙◌}
+use Rattle.std.proofs.Common.{sym, ap, ◌∙◌}
 use Rattle.elem_text.specs.References.{is_digit_of}
 use Rattle.elem_text.proofs.Spans.{all_more}
 use Rattle.elem_text.proofs.references.digits.Goals as goal

@@ -13,5 +13,5 @@ pub loop-rest-preserved : goal.loop-rest-preserved
 loop-rest-preserved c = record {
   utf8 = c.in_ok-rest.ensures.utf8;
   so_far = decoded_on c.loop-rest.out c.push_str.new.self c.push_referred.new.out _ c.text_of.result.now c.loop-rest.rest.now c.until.result.1.now c.in_ok-rest.rest.now _
-      c.until.ensures c.text_of.ensures c.in_ok-push_str.ensures c.in_ok-rest.ensures.stands c.loop-rest.invariant.so_far;
+      c.until.ensures c.text_of.ensures c.in_ok-push_str.ensures.ok c.in_ok-rest.ensures.stands c.loop-rest.invariant.so_far;
 }

@@ -1,8 +1,6 @@
-use Rattle.std.proofs.Common.{◌≡◌, ◌++◌, sym, ap, subst, ◌∙◌, arith, append_assoc, IsUtf8, ℕ, List, length, ◌≤◌, ◌-◌}
-use Rattle.std.proofs.lemmas.Str.{encode_ascii}
-use Rattle.elem_text.specs.References.{decoded}
+use Rattle.std.proofs.Common.{arith}
 use Rattle.elem_text.proofs.Utf8.{utf8_behind, utf8_behind_first}
-use Rattle.elem_text.proofs.Referred.{nothing_left, decoded_alone, decoded_referred, at_char}
+use Rattle.elem_text.proofs.Referred.{nothing_left, decoded_referred, at_char}
 use Rattle.elem_text.proofs.references.push_referred.Goals as goal
 
 pub returns-in_default-clause-shorter : goal.returns-in_default-clause-shorter
@@ -20,4 +18,4 @@ returns-clause-utf8 c =
 pub returns-clause-stands : goal.returns-clause-stands
 returns-clause-stands c =
     let s = c.in-Some-referred.ensures.semicolon in
-    at_char _ _ _ _ c.in-Some.behind.now c.in-Some-referred.rest.now c.in_ok-push-2.ensures c.in-Some.ensures (decoded_referred _ _ s.0 _ c.in-Some-referred.ensures.exact s.1)
+    at_char _ _ _ _ c.in-Some.behind.now c.in-Some-referred.rest.now c.in_ok-push-2.ensures.ok c.in-Some.ensures (decoded_referred _ _ s.0 _ c.in-Some-referred.ensures.exact s.1)

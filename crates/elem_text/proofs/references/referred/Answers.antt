@@ -1,4 +1,4 @@
-use Rattle.std.proofs.Common.{ℕ, List, [], ◌∷◌}
+use Rattle.std.proofs.Common.{[], ◌∷◌}
 use Rattle.elem_text.proofs.Numbered.{is_lt, is_gt, is_amp, is_quot, is_apos, is_hex, is_decimal, ref_none, later_semicolon}
 use Rattle.elem_text.proofs.references.referred.Goals as goal
 

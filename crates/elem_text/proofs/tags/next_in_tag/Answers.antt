@@ -1,4 +1,4 @@
-use Rattle.std.proofs.Common.{◌≡◌, sym, ◌∙◌}
+use Rattle.std.proofs.Common.{sym, ◌∙◌}
 use Rattle.std.proofs.lemmas.Result.{err_from_is_err_and}
 use Rattle.elem_text.proofs.Spans.{nothing_in}
 use Rattle.elem_text.proofs.Flawed.{some_bytes}
@@ -10,14 +10,8 @@ pub returns-in-Some-clause-utf8 : goal.returns-in-Some-clause-utf8
 returns-in-Some-clause-utf8 c =
     tail_utf8 _ _ _ (rw c.in-Some.is at c.in_ok-end.ensures.whole) (white_utf8 _ _ _ c.white.ensures c.requires)
 
-pub kept-requires : goal.kept-requires
-kept-requires c = (attr_utf8 _ _ _ _ c.in_ok-found.ensures.whole (white_utf8 _ _ _ c.white.ensures c.requires)).0
-
-pub decode-requires : goal.decode-requires
-decode-requires c = (attr_utf8 _ _ _ _ c.in_ok-found.ensures.whole (white_utf8 _ _ _ c.white.ensures c.requires)).1
-
 pub returns-clause-utf8 : goal.returns-clause-utf8
-returns-clause-utf8 c = (attr_utf8 _ _ _ _ c.in_ok-found.ensures.whole (white_utf8 _ _ _ c.white.ensures c.requires)).2
+returns-clause-utf8 c = attr_utf8 _ _ _ _ c.in_ok-attr.ensures.whole (white_utf8 _ _ _ c.white.ensures c.requires)
 
 pub returns-in_err-end-clause-flaw : goal.returns-in_err-end-clause-flaw
 returns-in_err-end-clause-flaw c =
@@ -27,6 +21,6 @@ pub returns-then-is_empty-clause-flaw : goal.returns-then-is_empty-clause-flaw
 returns-then-is_empty-clause-flaw c =
     next_no_gap _ _ _ _ c.white.ensures (nothing_in _ (sym c.is_empty.ensures ∙ c.if-is_empty.true)) (rw c.in_default.is at c.in_ok-end.ensures.none) _ c.ended.ensures
 
-pub returns-in_err-found-clause-flaw : goal.returns-in_err-found-clause-flaw
-returns-in_err-found-clause-flaw c =
-    let p = err_from_is_err_and c.from_residual-in_err-found.result c.from_residual-in_err-found.ensures.1 in rw (p.1, p.2) (next_by_attr _ _ _ _ c.white.ensures (some_bytes _ _ c.is_empty.ensures c.if-is_empty.false) (rw c.in_default.is at c.in_ok-end.ensures.none) _ c.in_err-found.ensures.flaw)
+pub returns-in_err-attr-clause-flaw : goal.returns-in_err-attr-clause-flaw
+returns-in_err-attr-clause-flaw c =
+    let p = err_from_is_err_and c.from_residual-in_err-attr.result c.from_residual-in_err-attr.ensures.1 in rw (p.1, p.2) (next_by_attr _ _ _ _ c.white.ensures (some_bytes _ _ c.is_empty.ensures c.if-is_empty.false) (rw c.in_default.is at c.in_ok-end.ensures.none) _ c.in_err-attr.ensures.flaw)

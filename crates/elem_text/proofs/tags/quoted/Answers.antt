@@ -1,4 +1,3 @@
-use Rattle.std.proofs.Common.{◌≡◌, sym, ◌∙◌, ap, refl}
 use Rattle.std.proofs.lemmas.Result.{err_from_is_err_and}
 use Rattle.elem_text.proofs.Flawed.{quoted_by_quote, quoted_open}
 use Rattle.elem_text.proofs.tags.quoted.Goals as goal

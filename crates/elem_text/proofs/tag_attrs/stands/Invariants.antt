@@ -1,6 +1,6 @@
 use Rattle.std.proofs.Common.{drop}
 use Rattle.elem_text.specs.Grammar.{HasName}
-use Rattle.elem_text.proofs.tags.stands.Given as goal
+use Rattle.elem_text.proofs.tag_attrs.stands.Given as goal
 
 -- an attribute of that name would still be to come
 abbrev pub invariant-loop-attr : goal.invariant-loop-attr
