@@ -2,3 +2,4 @@ pub mod TreeRows
 pub mod Once
 pub mod Preorder
 pub mod Numbered
+pub mod PreorderRows

@@ -1,3 +1,4 @@
 pub mod Tree
 pub mod Address
 pub mod Numbering
+pub mod Preorder

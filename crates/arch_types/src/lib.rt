@@ -4,9 +4,11 @@
 
 mod arch;
 mod block;
+mod tree;
 
 pub use arch::{Arch, CellModel, Layout, Single, Tile};
 pub use block::{AtomKind, Inter, InterKind, Kind, Meta, Mode, Pattern, PbType, Port, Side};
+pub use tree::walk;
 
 #[cfg(test)]
 mod tests;
