@@ -1,0 +1,6 @@
+pub mod Relinking
+pub mod Filling
+pub mod Stack
+pub mod Shown
+pub mod Chaining
+pub mod Bucketing

@@ -1,0 +1,62 @@
+-- What the links say of the lists.
+use Rattle.std.proofs.Common.{◌≡◌, ◌<◌, ◌≤◌, ◌+◌, ℕ, List, length, arith}
+use Rattle.std.specs.Prelude.{slice_index}
+use Rattle.std.specs.List.{Contains}
+use Rattle.link_lists.specs.Members.{Membership, IsLinked, IsFirstFrom, HasNoneFrom, IsSound}
+use Rattle.link_lists.specs.Links.{list_at, IsNearest, IsLinkage}
+use Rattle.link_lists.proofs.Relinking.{list_at-position, list_at-head, from_at-position, from_at-head}
+use Rattle.link_lists.proofs.Stack.{unlinked_once}
+
+abbrev pub members : ℕ → List ℕ → List ℕ → Membership
+members lists owner unlinked = record { lists = lists; owner = owner; unlinked = unlinked }
+
+found : (lists : ℕ) (owner unlinked : List ℕ) (list from i : ℕ) → i < length owner →
+    IsNearest owner (Contains unlinked) list from i → IsFirstFrom (members lists owner unlinked) list from i
+found lists owner unlinked list from i within least = record {
+  member = record { linked = record { within = within; linked = least.inside within }; owned = least.owned within };
+  behind = least.behind;
+  least = λ k behind less member. least.least k behind less member.owned member.linked.linked;
+}
+
+none : (lists : ℕ) (owner unlinked : List ℕ) (list from j : ℕ) → length owner ≤ j →
+    IsNearest owner (Contains unlinked) list from j → HasNoneFrom (members lists owner unlinked) list from
+none lists owner unlinked list from j past least = λ k behind member.
+    least.least k behind (omega (arith, member.linked.within)) member.owned member.linked.linked
+
+module _ (lists : ℕ) (owner next prev unlinked : List ℕ) (capacity : ℕ) (linkage : IsLinkage lists owner next prev unlinked capacity) where
+  pub sound : IsSound (members lists owner unlinked)
+  sound = record {
+    size = linkage.size;
+    owners = linkage.owners;
+    within = λ k inside. (linkage.kept k inside).within;
+    once = unlinked_once lists owner next prev capacity unlinked linkage;
+  }
+
+  at_first : (list head : ℕ) → list < lists → head ≡ length owner + list → IsNearest owner (Contains unlinked) list 0 (slice_index next head)
+  at_first list head inside is_head =
+      let of_list : list_at owner head ≡ list = omega (arith, list_at-head owner head (omega arith)) in
+      rw (of_list, from_at-head owner head (omega arith)) at
+      (linkage.links.onward head (omega arith) (λ h. absurd (omega arith)))
+
+  at_next : (i : ℕ) → IsLinked (members lists owner unlinked) i →
+      IsNearest owner (Contains unlinked) (slice_index owner i) (i + 1) (slice_index next i)
+  at_next i linked =
+      let within : i < length owner = linked.within in
+      rw (list_at-position owner i within, from_at-position owner i within) at
+      (linkage.links.onward i (omega arith) (λ _. linked.linked))
+
+  pub first_found : (list head i : ℕ) → list < lists → head ≡ length owner + list → i ≡ slice_index next head → i < length owner →
+      IsFirstFrom (members lists owner unlinked) list 0 i
+  first_found list head i inside is_head is within = found lists owner unlinked list 0 i within (rw is (at_first list head inside is_head))
+
+  pub first_none : (list head i : ℕ) → list < lists → head ≡ length owner + list → i ≡ slice_index next head → length owner ≤ i →
+      HasNoneFrom (members lists owner unlinked) list 0
+  first_none list head i inside is_head is past = none lists owner unlinked list 0 i past (rw is (at_first list head inside is_head))
+
+  pub next_found : (i j : ℕ) → IsLinked (members lists owner unlinked) i → j ≡ slice_index next i → j < length owner →
+      IsFirstFrom (members lists owner unlinked) (slice_index owner i) (i + 1) j
+  next_found i j linked is within = found lists owner unlinked (slice_index owner i) (i + 1) j within (rw is (at_next i linked))
+
+  pub next_none : (i j : ℕ) → IsLinked (members lists owner unlinked) i → j ≡ slice_index next i → length owner ≤ j →
+      HasNoneFrom (members lists owner unlinked) (slice_index owner i) (i + 1)
+  next_none i j linked is past = none lists owner unlinked (slice_index owner i) (i + 1) j past (rw is (at_next i linked))
