@@ -1,0 +1,3 @@
+pub mod Bipartite
+pub mod Inside
+pub mod View
