@@ -1,0 +1,3 @@
+mod KindSteps
+mod PairSteps
+mod Reduction

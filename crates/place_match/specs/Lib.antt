@@ -1,0 +1,3 @@
+pub mod Places
+pub mod Answer
+pub mod Tables

@@ -1,0 +1,59 @@
+-- Numbers of kinds, chains of sites, and the matching that places blocks: rows by block kind, and the sites that fit each.
+use Rattle.std.specs.Prelude.{◌≡◌, ◌≢◌, ◌⊎◌, ◌<◌, ◌≤◌, ◌+◌, ℕ, List, length, slice_index, slice_index_or}
+use Rattle.std.specs.List.{Contains}
+use Rattle.matching.specs.Bipartite.{AreApart, Graph, GoTogether}
+use Rattle.place_match.specs.Places.{IsFit}
+
+-- different kinds, and the numbers of those of a list's first entries
+pub record AreNumbers (list : List ℕ) (count : ℕ) (kinds numbers : List ℕ) : Type 0 where
+  pub each : length numbers ≡ count
+  pub within : (k : ℕ) → k < count → slice_index numbers k < length kinds
+  pub same : (k : ℕ) → k < count → slice_index kinds (slice_index numbers k) ≡ slice_index list k
+  pub few : length kinds ≤ count
+  pub apart : AreApart kinds
+
+-- the numbers of the kinds of a pair
+pub record IsLink (block_kinds site_kinds : List ℕ) (fit link : ℕ × ℕ) : Type 0 where
+  pub block_within : link.0 < length block_kinds
+  pub site_within : link.1 < length site_kinds
+  pub block_kind : slice_index block_kinds link.0 ≡ fit.0
+  pub site_kind : slice_index site_kinds link.1 ≡ fit.1
+
+-- no block, or no site, is of the pair's kind
+abbrev pub IsNoLink : List ℕ → List ℕ → ℕ × ℕ → Type 0
+IsNoLink block_kinds site_kinds fit = (link : ℕ × ℕ) → IsLink block_kinds site_kinds fit link → ⊥
+
+-- links are the numbers of the kinds of the first pairs
+pub record AreLinks (block_kinds site_kinds : List ℕ) (fits : List (ℕ × ℕ)) (count : ℕ) (links : List (ℕ × ℕ)) : Type 0 where
+  pub all : (k : ℕ) (link : ℕ × ℕ) → k < count → IsLink block_kinds site_kinds (slice_index_or fits k (0, 0)) link → Contains links link
+  pub only : (link : ℕ × ℕ) → Contains links link → (k : ℕ) × (k < count) × IsLink block_kinds site_kinds (slice_index_or fits k (0, 0)) link
+
+-- the first site of the kind from here on, or the number of sites where there is none
+pub record IsFirstOf (kinds : List ℕ) (kind from at : ℕ) : Type 0 where
+  pub low : from ≤ at
+  pub high : at ≤ length kinds
+  pub none : (site : ℕ) → from ≤ site → site < at → slice_index kinds site ≢ kind
+  pub here : at < length kinds → slice_index kinds at ≡ kind
+
+-- first leads to the first site of each kind, and next from each site to the next of its kind
+pub record AreChained (kinds first next : List ℕ) : Type 0 where
+  pub firsts : (kind : ℕ) → kind < length first → IsFirstOf kinds kind 0 (slice_index first kind)
+  pub follows : length next ≡ length kinds
+  pub nexts : (site : ℕ) → site < length kinds → IsFirstOf kinds (slice_index kinds site) (site + 1) (slice_index next site)
+
+-- the pairs of a row and the sites of a kind in front of a place were added
+pub record AddsSites (kinds : List ℕ) (row kind count : ℕ) (old new : List (ℕ × ℕ)) : Type 0 where
+  pub kept : (pair : ℕ × ℕ) → Contains old pair → Contains new pair
+  pub added : (site : ℕ) → site < count → slice_index kinds site ≡ kind → Contains {X = ℕ × ℕ} new (row, site)
+  pub only : (pair : ℕ × ℕ) → Contains new pair → Contains old pair ⊎ ((pair.0 ≡ row) × (pair.1 < length kinds) × (slice_index kinds pair.1 ≡ kind))
+
+-- the pairs that the first links give: of a row and each site of the kind that it is linked with
+pub record ArePairs (kinds : List ℕ) (links : List (ℕ × ℕ)) (count : ℕ) (pairs : List (ℕ × ℕ)) : Type 0 where
+  pub all : (k site : ℕ) → k < count → site < length kinds → slice_index kinds site ≡ (slice_index_or links k (0, 0)).1 → Contains {X = ℕ × ℕ} pairs ((slice_index_or links k (0, 0)).0, site)
+  pub only : (pair : ℕ × ℕ) → Contains pairs pair → (pair.1 < length kinds) × Contains {X = ℕ × ℕ} links (pair.0, slice_index kinds pair.1)
+
+-- blocks on the left and sites on the right go together where they fit
+pub record IsReduced (blocks sites : List ℕ) (fits : List (ℕ × ℕ)) (g : Graph) : Type 0 where
+  pub each : length g.rows ≡ length blocks
+  pub joined : (block site : ℕ) → IsFit blocks sites fits block site → GoTogether g block site
+  pub only : (block site : ℕ) → GoTogether g block site → IsFit blocks sites fits block site
