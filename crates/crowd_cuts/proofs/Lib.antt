@@ -1,0 +1,5 @@
+mod Filters
+mod TrailLemmas
+mod CutLemmas
+mod Menger
+mod ReductionLemmas
