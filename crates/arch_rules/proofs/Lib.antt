@@ -1,0 +1,11 @@
+pub mod Found
+pub mod Digits
+pub mod Loops
+pub mod Told
+pub mod Sets
+pub mod Siblings
+pub mod Below
+pub mod Passed
+pub mod Lists
+pub mod Root
+pub mod Exact

@@ -1,0 +1,10 @@
+pub mod Names
+pub mod Elements
+pub mod Numbers
+pub mod Forms
+pub mod Roles
+pub mod Rules
+pub mod Walks
+pub mod Taken
+pub mod Within
+pub mod Laws
