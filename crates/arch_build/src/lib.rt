@@ -1,0 +1,18 @@
+//! What the root element of an architecture file says, as an `Arch`. No rule of the format is
+//! tested here.
+#![tactic(auto)]
+
+mod block;
+mod inter;
+mod layout;
+mod model;
+mod part;
+mod places;
+mod port;
+mod said;
+#[cfg(test)]
+mod tests;
+mod tile;
+
+pub use places::Places;
+pub use said::arch_said;
