@@ -1,0 +1,4 @@
+pub mod Passing
+pub mod Rows
+pub mod Telling
+pub mod Exact

@@ -1,0 +1,4 @@
+pub mod First
+pub mod Links
+pub mod Sites
+pub mod Laws
