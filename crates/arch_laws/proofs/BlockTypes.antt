@@ -1,0 +1,102 @@
+-- The block types and the models of a file without broken rules.
+use Rattle.std.proofs.Common.{◌≡◌, ◌≤◌, ◌<◌, ◌⊎◌, inl, inr, ℕ, Bool, true, false, List, [], ◌∷◌, codes, refl, sym, ap, subst, arith, if◌then◌else◌, length}
+use Rattle.std.specs.List.{All, flat_map}
+use Rattle.std.proofs.lemmas.Bool.{cases_lt}
+use Rattle.std.proofs.lemmas.List.{length-map}
+use Rattle.std.proofs.lemmas.List.Elements.{All-nil, All-cons}
+use Rattle.arch_types.specs.declared.arch.CellModel.{CellModel}
+use Rattle.arch_types.specs.declared.block.PbType.{PbType}
+use Rattle.elem_text.specs.declared.elem.Elem.{Elem, out-Elem}
+use Rattle.elem_attrs.specs.Attributes.{has_tag, attr_of}
+use Rattle.arch_build.specs.Said.{within, count_in, said_block, said_blocks, said_model, said_models, said_port_name, model_names}
+use Rattle.arch_build.proofs.Rows.{block_is}
+use Rattle.arch_links.specs.Links.{IsLost, models_at, block_models, models_used}
+use Rattle.arch_rules.specs.declared.role.Role.TheVariants as role
+use Rattle.arch_rules.specs.declared.role.Sort.TheVariants as sort
+use Rattle.arch_rules.specs.Elements.{name_of, kids_of}
+use Rattle.arch_rules.specs.Roles.{sort_of, role_in}
+use Rattle.arch_rules.specs.Rules.{role_at}
+use Rattle.arch_rules.specs.Walks.{inside, cousins, AreFine, IsFine, IsFineFile}
+use Rattle.arch_laws.specs.Words.{AreDifferent, IsCount}
+use Rattle.arch_laws.specs.Blocks.{IsBlockType, AreBlockTypes}
+use Rattle.arch_laws.proofs.Each.{IsFineDeep, each_with}
+use Rattle.arch_laws.proofs.Siblings.{Gives}
+use Rattle.arch_laws.proofs.Texts.{same_text, count_is, count_over}
+use Rattle.arch_laws.proofs.Roles.{tag_is, fine_as, top_role}
+use Rattle.arch_laws.proofs.Leaves.{two_counts}
+use Rattle.arch_laws.proofs.Known.{AreKnown, known_kids, none_each}
+use Rattle.arch_laws.proofs.Trees.{blocks_in, block_by, gives_block, block_good, good}
+use Rattle.arch_laws.proofs.Top.{in_list, top_fine, models_list, blocks_list, each_listed, names_differ}
+
+-- a block type stands once
+count_one : (Taken : Type 0) (e : Elem) → IsFine role.Block Taken e → count_in (out-Elem e).attrs (codes "num_pb") ≡ 1
+count_one Taken e fine = go (cases_lt 1 (count_in (out-Elem e).attrs (codes "num_pb"))) (count_is (out-Elem e).attrs (codes "num_pb"))
+  where
+    go : (1 < count_in (out-Elem e).attrs (codes "num_pb")) ⊎ (count_in (out-Elem e).attrs (codes "num_pb") ≤ 1) →
+        IsCount (count_in (out-Elem e).attrs (codes "num_pb")) → count_in (out-Elem e).attrs (codes "num_pb") ≡ 1
+    go (inr fits) count = let some = count.some in omega (arith, some, fits)
+    go (inl over) count =
+        let more = count_over e (codes "num_pb") 1 (omega arith) over in
+        absurd (fine.0.1 (inl (more.0, more.1, λ one. two_counts more.0 more.0 more.2 refl one more.3 more.4)))
+
+module _ (models : List (List ℕ)) where
+  abbrev IsKnown : Elem → Type 0
+  IsKnown e = AreKnown models (block_models e)
+
+  one_block : (before : List Elem) (e : Elem) → IsFineDeep (in_list role.Blocks) before e → IsKnown e → All (IsBlockType (length models)) (said_block models e)
+  one_block before e deep known = subst (λ l. All (IsBlockType (length models)) l) (sym (block_is models e)) (go (has_tag e (codes "pb_type")) refl)
+    where
+      go : (t : Bool) → has_tag e (codes "pb_type") ≡ t → All (IsBlockType (length models)) (if t then block_by models e ∷ [] else [])
+      go false tag = All-nil (IsBlockType (length models))
+      go true tag =
+          let known_at : AreKnown models (models_at e) = subst (λ l. AreKnown models l) (ap (λ t. if t then models_at e else []) tag) known in
+          let role_is : role_at (in_list role.Blocks) e ≡ role.Block = top_role (name_of e) (tag_is e (codes "pb_type") tag) in
+          All-cons (IsBlockType (length models)) (block_by models e) [] (record {
+            one = count_one _ e (fine_as (role_at (in_list role.Blocks) e) role.Block _ e role_is deep.0);
+            tree = block_good models (in_list role.Blocks) before e refl tag deep known_at
+                (good models (inside (in_list role.Blocks) e) (cousins (role_at (in_list role.Blocks) e) before) (kids_of e) deep.1 (known_kids models e (inl tag) known_at));
+          }) (All-nil (IsBlockType (length models)))
+
+  block_types : (root : Elem) → IsFineFile root → AreKnown models (models_used root) → AreBlockTypes (length models) (said_blocks models root)
+  block_types root fine known = record {
+    each = each_listed role.Blocks (codes "complexblocklist") (IsBlockType (length models)) (λ e. AreKnown models (within (codes "complexblocklist") block_models e))
+        (said_block models) blocks_list.is [] (kids_of root) (top_fine root fine)
+        (none_each (IsLost models) (within (codes "complexblocklist") block_models) (kids_of root) known) in_one;
+    different = names_differ role.Blocks (codes "complexblocklist") blocks_list (λ (b : PbType). b.name) (said_block models)
+        (λ b e own. gives_block models (in_list role.Blocks) refl e) (kids_of root) (top_fine root fine);
+  }
+    where
+      in_one : (before : List Elem) (e : Elem) → has_tag e (codes "complexblocklist") ≡ true →
+          AreKnown models (within (codes "complexblocklist") block_models e) → AreFine (in_list role.Blocks) before (kids_of e) →
+          All (IsBlockType (length models)) (blocks_in models (kids_of e))
+      in_one before e tag q deep =
+          let kids : AreKnown models (flat_map block_models (kids_of e)) =
+          subst (λ l. AreKnown models l) (ap (λ t. if t then flat_map block_models (kids_of e) else []) tag) q in
+          each_with (IsBlockType (length models)) IsKnown (said_block models) (in_list role.Blocks) before (kids_of e) deep
+          (none_each (IsLost models) block_models (kids_of e) kids) one_block
+
+-- by the models themselves
+pub block_types_are : (models : List CellModel) (root : Elem) → IsFineFile root → AreKnown (model_names models) (models_used root) →
+    AreBlockTypes (length models) (said_blocks (model_names models) root)
+block_types_are models root fine known =
+    subst (λ n. AreBlockTypes n (said_blocks (model_names models) root)) (length-map models (λ m. m.name)) (block_types (model_names models) root fine known)
+
+gives_model : (e : Elem) → Gives (in_list role.Models) sort.Units (λ (m : CellModel). m.name) e (said_model e)
+gives_model e = go (has_tag e (codes "model")) refl
+  where
+    one : CellModel
+    one = record {
+      name = attr_of e (codes "name");
+      ins = flat_map (within (codes "input_ports") said_port_name) (kids_of e);
+      outs = flat_map (within (codes "output_ports") said_port_name) (kids_of e);
+    }
+
+    go : (t : Bool) → has_tag e (codes "model") ≡ t → Gives (in_list role.Models) sort.Units (λ (m : CellModel). m.name) e (if t then one ∷ [] else [])
+    go false tag = inl refl
+    go true tag =
+        let role_is : role_at (in_list role.Models) e ≡ role.Model = subst (λ n. role_in role.Models n ≡ role.Model) (sym (tag_is e (codes "model") tag)) refl in
+        inr (one, refl, ap sort_of role_is, same_text e (codes "name"))
+
+pub models_differ : (root : Elem) → IsFineFile root → AreDifferent (model_names (said_models root))
+models_differ root fine =
+    names_differ role.Models (codes "models") models_list (λ (m : CellModel). m.name) said_model (λ b e own. gives_model e) (kids_of root) (top_fine root fine)
