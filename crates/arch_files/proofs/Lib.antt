@@ -1,10 +1,2 @@
-pub mod Digits
-pub mod Found
-pub mod Pairs
-pub mod Differ
-pub mod Unique
-pub mod Failed
-pub mod Parted
-pub mod Says
-pub mod Depth
-pub mod Files
+pub mod Told
+pub mod Exact

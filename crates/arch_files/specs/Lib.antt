@@ -1,4 +1,2 @@
-pub mod Attributes
-pub mod Names
-pub mod FirstForm
-pub mod Exact
+pub mod Files
+pub mod Laws

@@ -1,17 +1,13 @@
-//! Architecture files: what the root element of one says, and the whole way from its bytes.
+//! Architecture files (VTR architecture reference): the whole way from the bytes of a file to what
+//! it says, or to the first rule that it breaks.
 #![tactic(auto)]
 
-mod attr;
-mod block;
 mod error;
-mod inter;
-mod leaf;
-mod name;
-mod number;
-mod port;
-mod root;
+mod laws;
+mod read;
 #[cfg(test)]
 mod tests;
 
 pub use error::ArchError;
-pub use root::{arch_of, read_arch};
+pub use laws::laws_of_files;
+pub use read::read_arch;
