@@ -1,5 +1,5 @@
--- Edges added one by one, and by all interconnects of a mode.
-use Rattle.std.proofs.Common.{◌≡◌, ◌<◌, ◌≤◌, ◌+◌, ◌⊎◌, inl, inr, ℕ, zero, suc, List, [], ◌∷◌, ◌++◌, Some, length, slice_get, append_assoc, append-nil, refl, sym, ◌∙◌, ap, subst, arith}
+-- The edges of a mode, interconnect by interconnect.
+use Rattle.std.proofs.Common.{◌≡◌, ◌<◌, ◌≤◌, ◌+◌, ◌-◌, ◌⊎◌, inl, inr, ℕ, zero, suc, true, false, List, [], ◌∷◌, ◌++◌, Some, length, slice_get, refl, sym, ◌∙◌, ap, subst, arith}
 use Rattle.std.proofs.lemmas.Option.{slice_get_within}
 use Rattle.vtr_base.specs.Lists.{Has}
 use Rattle.arch_types.specs.declared.block.PbType.{PbType}
@@ -10,236 +10,269 @@ use Rattle.mode_edges.specs.declared.pin.LocalPin.{LocalPin}
 use Rattle.mode_edges.specs.declared.pin.LocalEdge.{LocalEdge}
 use Rattle.mode_edges.specs.declared.pin.Role.TheVariants.{Source, End}
 use Rattle.mode_edges.specs.PinWords.{ReadsPins}
-use Rattle.mode_edges.specs.Edges.{IsPair, Gives, IsEdge, AreEdges}
-use Rattle.mode_edges.specs.Pairs.{Joined, AddsOne, IsOnce, Adds}
+use Rattle.mode_edges.specs.Edges.{IsPairFrom, GivesFrom, IsEdge, ComesFrom, AreEdges, HasMoreEdges}
+use Rattle.mode_edges.specs.Faults.{NamesPins, IsSound}
+use Rattle.mode_edges.specs.Gathered.{AddsInter}
+use Rattle.mode_edges.specs.Pairs.{with_edges, given_by}
+use Rattle.mode_edges.proofs.Gathering.{edge, no_fewer}
+use Rattle.mode_edges.proofs.Givens.{given, givens, givens_edges, givens_order, givens_has, givens_all}
+use Rattle.mode_edges.proofs.Kept.{Given, edges_at, NotAfter, SamePins, InOrder, Apart, has_left, has_right, has_split, in_order_both, has_edge, edge_from, IsKept, kept_none, kept_all, one_kept}
 use Rattle.mode_edges.proofs.OneMeaning.{reads_one}
 
-pub has_left : {X : Type 0} (xs ys : List X) (x : X) → Has xs x → Has (xs ++ ys) x
-has_left [] ys x h = absurd h
-has_left (y ∷ xs) ys x (inl e) = inl e
-has_left (y ∷ xs) ys x (inr h) = inr (has_left xs ys x h)
-
-pub has_right : {X : Type 0} (xs ys : List X) (x : X) → Has ys x → Has (xs ++ ys) x
-has_right [] ys x h = h
-has_right (y ∷ xs) ys x h = inr (has_right xs ys x h)
-
-pub has_split : {X : Type 0} (xs ys : List X) (x : X) → Has (xs ++ ys) x → Has xs x ⊎ Has ys x
-has_split [] ys x h = inr h
-has_split (y ∷ xs) ys x (inl e) = inl (inl e)
-has_split (y ∷ xs) ys x (inr h) = elim (has_split xs ys x h) [ inl a ↦ inl (inr a) | inr b ↦ inr b ]
-
-pub has_at : {X : Type 0} (xs : List X) (i : ℕ) (x : X) → slice_get xs i ≡ Some x → Has xs x
-has_at [] i x e = cc
-has_at (y ∷ xs) zero x e = inl (cc)
-has_at (y ∷ xs) (suc i) x e = inr (has_at xs i x e)
-
-joined_more : (old more : List LocalEdge) (s d : LocalPin) → Joined old s d → Joined (old ++ more) s d
-joined_more old more s d (e, h, src, dst) = (e, has_left old more e h, src, dst)
-
-once_push : (es : List LocalEdge) (e : LocalEdge) → IsOnce es → (Joined es e.src e.dst → ⊥) → IsOnce (es ++ e ∷ [])
-once_push [] e once none = (λ j. j.1, tt)
-once_push (x ∷ xs) e once none = (
-  λ j. elim (has_split xs (e ∷ []) j.0 j.1) [ inl there ↦ once.0 (j.0, there, j.2, j.3) | inr last ↦ same j last ],
-  once_push xs e once.1 (λ j. none (j.0, inr j.1, j.2, j.3)),
-)
-  where
-    same : (j : Joined (xs ++ e ∷ []) x.src x.dst) → Has (e ∷ []) j.0 → ⊥
-    same j (inl is) = none (x, inl refl, sym j.2 ∙ ap (λ (f : LocalEdge). f.src) is, sym j.3 ∙ ap (λ (f : LocalEdge). f.dst) is)
-    same j (inr absent) = absent
-
--- nothing is added for nothing
-pub adds_none : (old : List LocalEdge) (inter : ℕ) (P : LocalPin → LocalPin → Type 0) → ((s d : LocalPin) → P s d → ⊥) → Adds old old inter P
-adds_none old inter P none = record {
-  more = [];
-  is = sym (append-nil old);
-  given = λ e h. absurd h;
-  covers = λ s d p. absurd (none s d p);
-  once = λ once. once;
-}
-
-pub adds_one : (old new : List LocalEdge) (e : LocalEdge) → AddsOne old new e → Adds old new e.inter (λ s d. (s ≡ e.src) × (d ≡ e.dst))
-adds_one old new e (inl (joined, same)) = record {
-  more = [];
-  is = same ∙ sym (append-nil old);
-  given = λ f h. absurd h;
-  covers = λ s d p.
-      let j = subst (λ (l : List LocalEdge). Joined l e.src e.dst) (sym same) joined in
-      (j.0, j.1, j.2 ∙ sym p.0, j.3 ∙ sym p.1);
-  once = subst IsOnce (sym same);
-}
-adds_one old new e (inr (none, grown)) = record {
-  more = e ∷ [];
-  is = grown;
-  given = given;
-  covers = λ s d p. (e, subst (λ (l : List LocalEdge). Has l e) (sym grown) (has_right old (e ∷ []) e (inl refl)), sym p.0, sym p.1);
-  once = λ once. subst IsOnce (sym grown) (once_push old e once none);
-}
-  where
-    given : (f : LocalEdge) → Has (e ∷ []) f → (f.inter ≡ e.inter) × ((f.src ≡ e.src) × (f.dst ≡ e.dst)) × (Joined old f.src f.dst → ⊥)
-    given f (inl is) = (
-      ap (λ (x : LocalEdge). x.inter) is,
-      (ap (λ (x : LocalEdge). x.src) is, ap (λ (x : LocalEdge). x.dst) is),
-      λ j. none (j.0, j.1, j.2 ∙ ap (λ (x : LocalEdge). x.src) is, j.3 ∙ ap (λ (x : LocalEdge). x.dst) is),
-    )
-    given f (inr absent) = absurd absent
-
-pub adds_then : (old mid new : List LocalEdge) (inter : ℕ) (P Q : LocalPin → LocalPin → Type 0) → Adds old mid inter P → Adds mid new inter Q →
-    Adds old new inter (λ s d. P s d ⊎ Q s d)
-adds_then old mid new inter P Q a b = record {
-  more = a.more ++ b.more;
-  is = b.is ∙ (ap (λ (l : List LocalEdge). l ++ b.more) a.is ∙ append_assoc old a.more b.more);
-  given = λ e h. elim (has_split a.more b.more e h) [ inl first ↦ from_first e first | inr second ↦ from_second e second ];
-  covers = λ s d p. elim p [ inl first ↦ still s d (a.covers s d first) | inr second ↦ b.covers s d second ];
-  once = λ once. b.once (a.once once);
-}
-  where
-    from_first : (e : LocalEdge) → Has a.more e → (e.inter ≡ inter) × (P e.src e.dst ⊎ Q e.src e.dst) × (Joined old e.src e.dst → ⊥)
-    from_first e h = let g = a.given e h in (g.0, inl g.1, g.2)
-
-    from_second : (e : LocalEdge) → Has b.more e → (e.inter ≡ inter) × (P e.src e.dst ⊎ Q e.src e.dst) × (Joined old e.src e.dst → ⊥)
-    from_second e h =
-        let g = b.given e h in
-        (g.0, inr g.1, λ j. g.2 (subst (λ (l : List LocalEdge). Joined l e.src e.dst) (sym a.is) (joined_more old a.more e.src e.dst j)))
-
-    still : (s d : LocalPin) → Joined mid s d → Joined new s d
-    still s d j = subst (λ (l : List LocalEdge). Joined l s d) (sym b.is) (joined_more mid b.more s d j)
-
-pub adds_same : (old new : List LocalEdge) (inter : ℕ) (P Q : LocalPin → LocalPin → Type 0) → ((s d : LocalPin) → P s d → Q s d) → ((s d : LocalPin) → Q s d → P s d) →
-    Adds old new inter P → Adds old new inter Q
-adds_same old new inter P Q on back a = record {
-  more = a.more;
-  is = a.is;
-  given = λ e h. let g = a.given e h in (g.0, on e.src e.dst g.1, g.2);
-  covers = λ s d q. a.covers s d (back s d q);
-  once = a.once;
-}
-
--- the owners ascend, from `low` on
-abbrev pub Ascends : ℕ → List LocalEdge → Type 0
-Ascends low [] = Unit {0}
-Ascends low (e ∷ es) = (low ≤ e.inter) × Ascends e.inter es
-
-ascends_end : (low n : ℕ) (es : List LocalEdge) → low ≤ n → ((e : LocalEdge) → Has es e → e.inter ≡ n) → Ascends low es
-ascends_end low n [] below is = tt
-ascends_end low n (e ∷ es) below is =
-    let here : e.inter ≡ n = is e (inl refl) in
-    (omega arith, ascends_end e.inter n es (omega arith) (λ f h. is f (inr h)))
-
-ascends_append : (low n : ℕ) (es more : List LocalEdge) → low ≤ n → Ascends low es → ((e : LocalEdge) → Has es e → e.inter < n) →
-    ((e : LocalEdge) → Has more e → e.inter ≡ n) → Ascends low (es ++ more)
-ascends_append low n [] more below a under is = ascends_end low n more below is
-ascends_append low n (e ∷ es) more below a under is =
-    let here = under e (inl refl) in
-    (a.0, ascends_append e.inter n es more (omega arith) a.1 (λ f h. under f (inr h)) is)
+-- what the interconnects below n give, in order
+pub record AreGiven (block : PbType) (mode : Mode) (n : ℕ) (seen : List Given) : Type 0 where
+  pub gives : (g : Given) → Has seen g → GivesFrom block mode g.edge.inter g.place g.edge.src g.edge.dst × (g.edge.inter < n)
+  pub all : (k place : ℕ) (s d : LocalPin) → k < n → GivesFrom block mode k place s d → Has seen (given k place s d)
+  pub sorted : InOrder seen
 
 -- the edges of the interconnects below n
 pub record EdgesTo (block : PbType) (mode : Mode) (n : ℕ) (edges : List LocalEdge) : Type 0 where
-  pub each : (e : LocalEdge) → Has edges e → IsEdge block mode e.inter e.src e.dst × (e.inter < n)
-  pub covers : (k : ℕ) (s d : LocalPin) → k < n → Gives block mode k s d → Joined edges s d
-  pub once : IsOnce edges
-  pub ascends : Ascends 0 edges
+  pub seen : List Given
+  pub given : AreGiven block mode n seen
+  pub kept : IsKept seen edges
 
 pub edges_none : (block : PbType) (mode : Mode) → EdgesTo block mode 0 []
-edges_none block mode = record { each = λ e h. absurd h; covers = λ k s d less. absurd (omega arith); once = tt; ascends = tt }
+edges_none block mode = record {
+  seen = [];
+  given = record { gives = λ g h. absurd h; all = λ k place s d less. absurd (omega arith); sorted = tt };
+  kept = kept_none;
+}
 
-pub edges_more : (block : PbType) (mode : Mode) (n : ℕ) (old new : List LocalEdge) → EdgesTo block mode n old → Adds old new n (Gives block mode n) →
-    EdgesTo block mode (n + 1) new
-edges_more block mode n old new so_far adds = record {
-  each = λ e h. elim (has_split old adds.more e (subst (λ (l : List LocalEdge). Has l e) adds.is h)) [ inl there ↦ kept e there | inr added ↦ fresh e added ];
-  covers = λ k s d less gives. elim (less_or_same k n less) [
-    | inl before ↦ still s d (so_far.covers k s d before gives)
-    | inr same ↦ adds.covers s d (subst (λ (m : ℕ). Gives block mode m s d) same gives)
+-- an interconnect gives the pairs of its pins
+gives_read : (block : PbType) (mode : Mode) (n : ℕ) (here : Inter) (ins outs : List LocalPin) → slice_get (inters_of mode) n ≡ Some here →
+    NamesPins block mode here ins outs → (place : ℕ) (s d : LocalPin) → IsPairFrom here.kind ins outs place s d → GivesFrom block mode n place s d
+gives_read block mode n here ins outs is names place s d pair =
+    record { here = here; is = is; ins = ins; outs = outs; reads_ins = names.reads_ins; reads_outs = names.reads_outs; pair = pair }
+
+read_gives : (block : PbType) (mode : Mode) (n : ℕ) (here : Inter) (ins outs : List LocalPin) → slice_get (inters_of mode) n ≡ Some here →
+    NamesPins block mode here ins outs → (place : ℕ) (s d : LocalPin) → GivesFrom block mode n place s d → IsPairFrom here.kind ins outs place s d
+read_gives block mode n here ins outs is names place s d g =
+    let same : g.here ≡ here = cc (g.is, is) in
+    let ins_are = reads_one block mode Source here.input g.ins ins (subst (λ (x : Inter). ReadsPins block mode Source x.input g.ins) same g.reads_ins) names.reads_ins in
+    let outs_are = reads_one block mode End here.output g.outs outs (subst (λ (x : Inter). ReadsPins block mode End x.output g.outs) same g.reads_outs) names.reads_outs in
+    subst (λ (x : Inter). IsPairFrom x.kind ins outs place s d) same
+    (subst (λ (l : List LocalPin). IsPairFrom g.here.kind l outs place s d) ins_are
+    (subst (λ (l : List LocalPin). IsPairFrom g.here.kind g.ins l place s d) outs_are g.pair))
+
+less_or_same : (k n : ℕ) → k < n + 1 → (k < n) ⊎ (k ≡ n)
+less_or_same k n less = grind arith
+
+given_more : (block : PbType) (mode : Mode) (n : ℕ) (here : Inter) (ins outs : List LocalPin) (seen : List Given) → slice_get (inters_of mode) n ≡ Some here →
+    NamesPins block mode here ins outs → AreGiven block mode n seen → AreGiven block mode (n + 1) (seen ++ givens here.kind n ins outs)
+given_more block mode n here ins outs seen is names so_far = record {
+  gives = λ g h. elim (has_split seen new g h) [
+    | inl before ↦ let b = so_far.gives g before in let less = b.1 in (b.0, omega (arith, less))
+    | inr last ↦ fresh g last
   ];
-  once = adds.once so_far.once;
-  ascends = subst (Ascends 0) (sym adds.is)
-      (ascends_append 0 n old adds.more (omega arith) so_far.ascends (λ e h. (so_far.each e h).1) (λ e h. (adds.given e h).0));
+  all = λ k place s d less gives. elim (less_or_same k n less) [
+    | inl before ↦ has_left seen new (given k place s d) (so_far.all k place s d before gives)
+    | inr same ↦ has_right seen new (given k place s d) (here_given k place s d same gives)
+  ];
+  sorted = in_order_both seen new so_far.sorted (givens_order here.kind n ins outs) (λ x y in_seen in_new. before x y in_seen in_new);
 }
   where
-    kept : (e : LocalEdge) → Has old e → IsEdge block mode e.inter e.src e.dst × (e.inter < n + 1)
-    kept e h = let k = so_far.each e h in let less = k.1 in (k.0, omega arith)
+    new : List Given
+    new = givens here.kind n ins outs
 
-    fresh : (e : LocalEdge) → Has adds.more e → IsEdge block mode e.inter e.src e.dst × (e.inter < n + 1)
-    fresh e h =
-        let g = adds.given e h in
-        let is = g.0 in
-        let edge : IsEdge block mode n e.src e.dst = record { gives = g.1; first = λ k less gives. g.2 (so_far.covers k e.src e.dst less gives) } in
-        (subst (λ (m : ℕ). IsEdge block mode m e.src e.dst) (sym is) edge, omega arith)
+    fresh : (g : Given) → Has (givens here.kind n ins outs) g → GivesFrom block mode g.edge.inter g.place g.edge.src g.edge.dst × (g.edge.inter < n + 1)
+    fresh g h =
+        let p = givens_has here.kind n ins outs g h in
+        let owner = p.0 in (
+          subst (λ (m : ℕ). GivesFrom block mode m g.place g.edge.src g.edge.dst) (sym owner)
+              (gives_read block mode n here ins outs is names g.place g.edge.src g.edge.dst p.1),
+          omega (arith, owner),
+        )
 
-    still : (s d : LocalPin) → Joined old s d → Joined new s d
-    still s d j = subst (λ (l : List LocalEdge). Joined l s d) (sym adds.is) (joined_more old adds.more s d j)
+    here_given : (k place : ℕ) (s d : LocalPin) → k ≡ n → GivesFrom block mode k place s d → Has (givens here.kind n ins outs) (given k place s d)
+    here_given k place s d same gives =
+        subst (λ (m : ℕ). Has (givens here.kind n ins outs) (given m place s d)) (sym same)
+        (givens_all here.kind n place ins outs s d
+        (read_gives block mode n here ins outs is names place s d (subst (λ (m : ℕ). GivesFrom block mode m place s d) same gives)))
 
-    less_or_same : (k m : ℕ) → k < m + 1 → (k < m) ⊎ (k ≡ m)
-    less_or_same k m less = grind arith
+    before : (x y : Given) → Has seen x → Has (givens here.kind n ins outs) y → NotAfter x y
+    before x y in_seen in_new =
+        let less = (so_far.gives x in_seen).1 in
+        let owner = (givens_has here.kind n ins outs y in_new).0 in
+        record { owner = omega (arith, less, owner); place = λ same. absurd (omega (arith, less, owner, same)) }
 
--- where its words were read, an interconnect gives the pairs of these pins
-pub gives_read : (block : PbType) (mode : Mode) (n : ℕ) (here : Inter) (ins outs : List LocalPin) → slice_get (inters_of mode) n ≡ Some here →
-    ReadsPins block mode Source here.input ins → ReadsPins block mode End here.output outs → (s d : LocalPin) → IsPair here.kind ins outs s d → Gives block mode n s d
-gives_read block mode n here ins outs is reads_ins reads_outs s d pair =
-    record { here = here; is = is; ins = ins; outs = outs; reads_ins = reads_ins; reads_outs = reads_outs; pair = pair }
+-- one more interconnect
+pub edges_more : (block : PbType) (mode : Mode) (n : ℕ) (here : Inter) (ins outs : List LocalPin) (old new : List LocalEdge) → slice_get (inters_of mode) n ≡ Some here →
+    NamesPins block mode here ins outs → new ≡ with_edges old (given_by here.kind n ins outs) → EdgesTo block mode n old → EdgesTo block mode (n + 1) new
+edges_more block mode n here ins outs old new is names added so_far = record {
+  seen = so_far.seen ++ givens here.kind n ins outs;
+  given = given_more block mode n here ins outs so_far.seen is names so_far.given;
+  kept = subst (IsKept (so_far.seen ++ givens here.kind n ins outs)) (ap (with_edges old) (givens_edges here.kind n ins outs) ∙ sym added)
+      (kept_all so_far.seen old (givens here.kind n ins outs) so_far.kept (givens_order here.kind n ins outs)
+      (λ h g in_seen in_new.
+      let less = (so_far.given.gives h in_seen).1 in
+      let owner = (givens_has here.kind n ins outs g in_new).0 in
+      record { owner = omega (arith, less, owner); place = λ same. absurd (omega (arith, less, owner, same)) }));
+}
 
-pub read_gives : (block : PbType) (mode : Mode) (n : ℕ) (here : Inter) (ins outs : List LocalPin) → slice_get (inters_of mode) n ≡ Some here →
-    ReadsPins block mode Source here.input ins → ReadsPins block mode End here.output outs → (s d : LocalPin) → Gives block mode n s d → IsPair here.kind ins outs s d
-read_gives block mode n here ins outs is reads_ins reads_outs s d g =
-    let same : g.here ≡ here = cc (g.is, is) in
-    let ins_are = reads_one block mode Source here.input g.ins ins (subst (λ (x : Inter). ReadsPins block mode Source x.input g.ins) same g.reads_ins) reads_ins in
-    let outs_are = reads_one block mode End here.output g.outs outs (subst (λ (x : Inter). ReadsPins block mode End x.output g.outs) same g.reads_outs) reads_outs in
-    subst (λ (x : Inter). IsPair x.kind ins outs s d) same
-    (subst (λ (l : List LocalPin). IsPair g.here.kind l outs s d) ins_are (subst (λ (l : List LocalPin). IsPair g.here.kind g.ins l s d) outs_are g.pair))
+-- the edges of a mode by their places
+at_place : (gs : List Given) (i : ℕ) (e : LocalEdge) → slice_get (edges_at gs) i ≡ Some e → (g : Given) × (e ≡ g.edge) × (slice_get gs i ≡ Some g)
+at_place [] i e at = cc
+at_place (g ∷ gs) zero e at = let is : e ≡ g.edge = cc in (g, is, refl)
+at_place (g ∷ gs) (suc i) e at = at_place gs i e at
 
--- the pairs of the pins that were read, as what the interconnect gives
-pub adds_gives : (block : PbType) (mode : Mode) (n : ℕ) (here : Inter) (old new : List LocalEdge) (input output : List ℕ) (ins outs ins' outs' : List LocalPin) →
-    slice_get (inters_of mode) n ≡ Some here → input ≡ here.input → output ≡ here.output → ReadsPins block mode Source input ins → ReadsPins block mode End output outs →
-    ins' ≡ ins → outs' ≡ outs → Adds old new n (IsPair here.kind ins' outs') → Adds old new n (Gives block mode n)
-adds_gives block mode n here old new input output ins outs ins' outs' is in_is out_is reads_ins reads_outs same_ins same_outs adds =
-    let source = subst (λ (t : List ℕ). ReadsPins block mode Source t ins') in_is (subst (ReadsPins block mode Source input) (sym same_ins) reads_ins) in
-    let end = subst (λ (t : List ℕ). ReadsPins block mode End t outs') out_is (subst (ReadsPins block mode End output) (sym same_outs) reads_outs) in
-    adds_same old new n (IsPair here.kind ins' outs') (Gives block mode n) (gives_read block mode n here ins' outs' is source end)
-    (read_gives block mode n here ins' outs' is source end) adds
+has_at : (gs : List Given) (i : ℕ) (g : Given) → slice_get gs i ≡ Some g → Has gs g
+has_at [] i g at = cc
+has_at (x ∷ gs) zero g at = inl (cc)
+has_at (x ∷ gs) (suc i) g at = inr (has_at gs i g at)
 
-once_at : (es : List LocalEdge) → IsOnce es → (i j : ℕ) (e f : LocalEdge) → slice_get es i ≡ Some e → slice_get es j ≡ Some f → e.src ≡ f.src → e.dst ≡ f.dst → i ≡ j
-once_at [] once i j e f at_i at_j s d = cc
-once_at (x ∷ xs) once zero zero e f at_i at_j s d = refl
-once_at (x ∷ xs) once zero (suc j) e f at_i at_j s d =
-    let is : x ≡ e = cc in
-    absurd (once.0 (f, has_at xs j f at_j, sym s ∙ ap (λ (y : LocalEdge). y.src) (sym is), sym d ∙ ap (λ (y : LocalEdge). y.dst) (sym is)))
-once_at (x ∷ xs) once (suc i) zero e f at_i at_j s d =
-    let is : x ≡ f = cc in
-    absurd (once.0 (e, has_at xs i e at_i, s ∙ ap (λ (y : LocalEdge). y.src) (sym is), d ∙ ap (λ (y : LocalEdge). y.dst) (sym is)))
-once_at (x ∷ xs) once (suc i) (suc j) e f at_i at_j s d = ap suc (once_at xs once.1 i j e f at_i at_j s d)
+places_apart : (gs : List Given) (i j : ℕ) (g h : Given) → Apart gs → slice_get gs i ≡ Some g → slice_get gs j ≡ Some h → SamePins g.edge h.edge → i ≡ j
+places_apart [] i j g h a at_i at_j same = cc
+places_apart (x ∷ gs) zero zero g h a at_i at_j same = refl
+places_apart (x ∷ gs) zero (suc j) g h a at_i at_j same =
+    let is : x ≡ g = cc in
+    absurd (a.0 h (has_at gs j h at_j) (ap (λ (y : Given). y.edge.src) is ∙ same.0, ap (λ (y : Given). y.edge.dst) is ∙ same.1))
+places_apart (x ∷ gs) (suc i) zero g h a at_i at_j same =
+    let is : x ≡ h = cc in
+    absurd (a.0 g (has_at gs i g at_i) (ap (λ (y : Given). y.edge.src) is ∙ sym same.0, ap (λ (y : Given). y.edge.dst) is ∙ sym same.1))
+places_apart (x ∷ gs) (suc i) (suc j) g h a at_i at_j same = ap suc (places_apart gs i j g h a.1 at_i at_j same)
 
-ascends_low : (low : ℕ) (es : List LocalEdge) → Ascends low es → (i : ℕ) (e : LocalEdge) → slice_get es i ≡ Some e → low ≤ e.inter
-ascends_low low [] a i e at = cc
-ascends_low low (x ∷ xs) a zero e at = let is : x ≡ e = cc in omega (arith, a.0, ap (λ (y : LocalEdge). y.inter) is)
-ascends_low low (x ∷ xs) a (suc i) e at = omega (arith, a.0, ascends_low x.inter xs a.1 i e at)
+places_in_order : (gs : List Given) (i j : ℕ) (g h : Given) → InOrder gs → i < j → slice_get gs i ≡ Some g → slice_get gs j ≡ Some h → NotAfter g h
+places_in_order [] i j g h order less at_i at_j = cc
+places_in_order (x ∷ gs) i zero g h order less at_i at_j = absurd (omega arith)
+places_in_order (x ∷ gs) zero (suc j) g h order less at_i at_j =
+    let is : x ≡ g = cc in
+    subst (λ (y : Given). NotAfter y h) is (order.0 h (has_at gs j h at_j))
+places_in_order (x ∷ gs) (suc i) (suc j) g h order less at_i at_j = places_in_order gs i j g h order.1 (omega arith) at_i at_j
 
-ordered_at : (low : ℕ) (es : List LocalEdge) → Ascends low es → (i j : ℕ) (e f : LocalEdge) → i < j → slice_get es i ≡ Some e → slice_get es j ≡ Some f → e.inter ≤ f.inter
-ordered_at low [] a i j e f less at_i at_j = cc
-ordered_at low (x ∷ xs) a i zero e f less at_i at_j = absurd (omega arith)
-ordered_at low (x ∷ xs) a zero (suc j) e f less at_i at_j =
-    let is : x ≡ e = cc in
-    omega (arith, ascends_low x.inter xs a.1 j f at_j, ap (λ (y : LocalEdge). y.inter) is)
-ordered_at low (x ∷ xs) a (suc i) (suc j) e f less at_i at_j = ordered_at x.inter xs a.1 i j e f (omega arith) at_i at_j
+-- what is kept for a pair that an interconnect gives
+kept_for : (block : PbType) (mode : Mode) (n : ℕ) (edges : List LocalEdge) (t : EdgesTo block mode n edges) (k place : ℕ) (s d : LocalPin) → k < n →
+    GivesFrom block mode k place s d → (g : Given) × Has t.kept.kept g × SamePins g.edge (edge k s d) × NotAfter g (given k place s d)
+kept_for block mode n edges t k place s d less gives = t.kept.covers (given k place s d) (t.given.all k place s d less gives)
 
-same_owner : (block : PbType) (mode : Mode) (m n : ℕ) (s d : LocalPin) → IsEdge block mode m s d → IsEdge block mode n s d → m ≡ n
-same_owner block mode m n s d a b =
-    let not_less : m < n → ⊥ = λ less. b.first m less a.gives in
-    let not_more : n < m → ⊥ = λ more. a.first n more b.gives in
+is_edge : (block : PbType) (mode : Mode) (n : ℕ) (edges : List LocalEdge) (t : EdgesTo block mode n edges) (g : Given) → Has t.kept.kept g →
+    IsEdge block mode g.edge.inter g.edge.src g.edge.dst
+is_edge block mode n edges t g h =
+    let gives = t.given.gives g (t.kept.from g h) in
+    let below = gives.1 in
+    record {
+      gives = (g.place, gives.0);
+      first = λ k less other.
+          let f = kept_for block mode n edges t k other.0 g.edge.src g.edge.dst (omega (arith, below, less)) other.1 in
+          let same = one_kept t.kept.kept f.0 g t.kept.apart f.1 h f.2 in
+          let owner : f.0.edge.inter ≡ g.edge.inter = ap (λ (y : Given). y.edge.inter) same in
+          let before = f.3.owner in
+          absurd (omega (arith, owner, before, less));
+    }
+
+inter_below : (block : PbType) (mode : Mode) (n k place : ℕ) (s d : LocalPin) → length (inters_of mode) ≤ n → GivesFrom block mode k place s d → k < n
+inter_below block mode n k place s d end gives = omega (arith, slice_get_within (inters_of mode) k gives.here gives.is)
+
+has_all : (block : PbType) (mode : Mode) (n : ℕ) (edges : List LocalEdge) (t : EdgesTo block mode n edges) → length (inters_of mode) ≤ n → (inter : ℕ) (s d : LocalPin) →
+    IsEdge block mode inter s d → Has edges (edge inter s d)
+has_all block mode n edges t end inter s d is =
+    let f = kept_for block mode n edges t inter is.gives.0 s d (inter_below block mode n inter is.gives.0 s d end is.gives.1) is.gives.1 in
+    let g = f.0 in
+    let here = t.given.gives g (t.kept.from g f.1) in
+    let gives : GivesFrom block mode g.edge.inter g.place s d =
+    subst (λ (x : LocalPin). GivesFrom block mode g.edge.inter g.place x d) f.2.0
+    (subst (λ (x : LocalPin). GivesFrom block mode g.edge.inter g.place g.edge.src x) f.2.1 here.0) in
+    let not_later = f.3.owner in
+    let not_before : g.edge.inter < inter → ⊥ = λ less. is.first g.edge.inter less (g.place, gives) in
+    let owner : g.edge.inter ≡ inter = omega arith in
+    let same : g.edge ≡ edge inter s d =
+    ap (λ (x : LocalPin). edge g.edge.inter x g.edge.dst) f.2.0
+    ∙ (ap (λ (x : LocalPin). edge g.edge.inter s x) f.2.1 ∙ ap (λ (m : ℕ). edge m s d) owner) in
+    subst (λ (l : List LocalEdge). Has l (edge inter s d)) (sym t.kept.is)
+    (subst (Has (edges_at t.kept.kept)) same (has_edge t.kept.kept g f.1))
+
+-- two edges of one owner stand in the order of the places from which they come
+in_turn : (block : PbType) (mode : Mode) (n : ℕ) (edges : List LocalEdge) (t : EdgesTo block mode n edges) (g h : Given) (p q : ℕ) → Has t.kept.kept g → Has t.kept.kept h →
+    NotAfter g h → g.edge.inter ≡ h.edge.inter → ComesFrom block mode g.edge p → ComesFrom block mode h.edge q → p ≤ q
+in_turn block mode n edges t g h p q in_g in_h order owner from_g from_h =
+    let g_given = (t.given.gives g (t.kept.from g in_g)).0 in
+    let h_below = (t.given.gives h (t.kept.from h in_h)).1 in
+    let early : g.place < p → ⊥ = λ less. from_g.first g.place less g_given in
+    let f = kept_for block mode n edges t h.edge.inter q h.edge.src h.edge.dst h_below from_h.gives in
+    let same = one_kept t.kept.kept f.0 h t.kept.apart f.1 in_h f.2 in
+    let f_owner : f.0.edge.inter ≡ h.edge.inter = ap (λ (y : Given). y.edge.inter) same in
+    let f_place : f.0.place ≡ h.place = ap (λ (y : Given). y.place) same in
+    let late = f.3.place f_owner in
+    let between = order.place owner in
     omega arith
 
-abbrev pub edge : LocalPin → LocalPin → ℕ → LocalEdge
-edge s d inter = record { src = s; dst = d; inter = inter }
-
+-- the edges of all interconnects are those of the mode
 pub edges_all : (block : PbType) (mode : Mode) (n : ℕ) (edges : List LocalEdge) → length (inters_of mode) ≤ n → EdgesTo block mode n edges → AreEdges block mode edges
-edges_all block mode n edges end so_far = record {
-  each = λ e h. (so_far.each e h).0;
-  all = λ inter s d is.
-      let inside = slice_get_within (inters_of mode) inter is.gives.here is.gives.is in
-      let j = so_far.covers inter s d (omega arith) is.gives in
-      let mine = (so_far.each j.0 j.1).0 in
-      let here = subst (λ (x : LocalPin). IsEdge block mode j.0.inter j.0.src x) j.3 mine in
-      let owner = same_owner block mode j.0.inter inter s d (subst (λ (x : LocalPin). IsEdge block mode j.0.inter x d) j.2 here) is in
-      let same = ap (λ (x : LocalPin). edge x j.0.dst j.0.inter) j.2 ∙ (ap (λ (x : LocalPin). edge s x j.0.inter) j.3 ∙ ap (λ (m : ℕ). edge s d m) owner) in
-      subst (λ (e : LocalEdge). Has edges e) same j.1;
-  once = once_at edges so_far.once;
-  ordered = ordered_at 0 edges so_far.ascends;
+edges_all block mode n edges end t = record {
+  each = λ e h.
+      let f = edge_from t.kept.kept e (subst (λ (l : List LocalEdge). Has l e) t.kept.is h) in
+      subst (λ (x : LocalEdge). IsEdge block mode x.inter x.src x.dst) (sym f.2) (is_edge block mode n edges t f.0 f.1);
+  all = has_all block mode n edges t end;
+  once = λ i j e f at_i at_j src dst.
+      let g = at_place t.kept.kept i e (at e i at_i) in
+      let h = at_place t.kept.kept j f (at f j at_j) in
+      places_apart t.kept.kept i j g.0 h.0 t.kept.apart g.2 h.2
+      (sym (ap (λ (x : LocalEdge). x.src) g.1) ∙ (src ∙ ap (λ (x : LocalEdge). x.src) h.1), sym (ap (λ (x : LocalEdge). x.dst) g.1) ∙ (dst ∙ ap (λ (x : LocalEdge). x.dst) h.1));
+  ordered = λ i j e f less at_i at_j.
+      let g = at_place t.kept.kept i e (at e i at_i) in
+      let h = at_place t.kept.kept j f (at f j at_j) in
+      let order = (places_in_order t.kept.kept i j g.0 h.0 t.kept.sorted less g.2 h.2).owner in
+      let e_is : e.inter ≡ g.0.edge.inter = ap (λ (x : LocalEdge). x.inter) g.1 in
+      let f_is : f.inter ≡ h.0.edge.inter = ap (λ (x : LocalEdge). x.inter) h.1 in
+      omega (arith, order, e_is, f_is);
+  in_turn = λ i j e f p q less at_i at_j owner from_e from_f.
+      let g = at_place t.kept.kept i e (at e i at_i) in
+      let h = at_place t.kept.kept j f (at f j at_j) in
+      in_turn block mode n edges t g.0 h.0 p q (has_at t.kept.kept i g.0 g.2) (has_at t.kept.kept j h.0 h.2)
+      (places_in_order t.kept.kept i j g.0 h.0 t.kept.sorted less g.2 h.2)
+      (sym (ap (λ (x : LocalEdge). x.inter) g.1) ∙ (owner ∙ ap (λ (x : LocalEdge). x.inter) h.1))
+      (subst (λ (x : LocalEdge). ComesFrom block mode x p) g.1 from_e) (subst (λ (x : LocalEdge). ComesFrom block mode x q) h.1 from_f);
 }
+  where
+    at : (e : LocalEdge) (i : ℕ) → slice_get edges i ≡ Some e → slice_get (edges_at t.kept.kept) i ≡ Some e
+    at e i is = subst (λ (l : List LocalEdge). slice_get l i ≡ Some e) t.kept.is is
+
+some_at : {X : Type 0} (xs : List X) (n : ℕ) → n < length xs → (x : X) × (slice_get xs n ≡ Some x)
+some_at [] n inside = absurd (omega arith)
+some_at (x ∷ xs) zero inside = (x, refl)
+some_at (x ∷ xs) (suc n) inside = some_at xs n (omega arith)
+
+-- the edges of a mode, after those of its first interconnects
+finished : (block : PbType) (mode : Mode) (more n : ℕ) (edges : List LocalEdge) → n + more ≡ length (inters_of mode) → IsSound block mode → EdgesTo block mode n edges →
+    (all : List LocalEdge) × EdgesTo block mode (n + more) all × (length edges ≤ length all)
+finished block mode zero n edges whole sound t =
+    let same : n ≡ n + 0 = omega arith in
+    (edges, subst (λ (m : ℕ). EdgesTo block mode m edges) same t, omega arith)
+finished block mode (suc more) n edges whole sound t =
+    let here = some_at (inters_of mode) n (omega arith) in
+    let ok = sound n here.0 here.1 in
+    let next = with_edges edges (given_by here.0.kind n ok.ins ok.outs) in
+    let longer = no_fewer edges (given_by here.0.kind n ok.ins ok.outs) in
+    let rest = finished block mode more (n + 1) next (omega arith) sound
+    (edges_more block mode n here.0 ok.ins ok.outs edges next here.1 ok.names refl t) in
+    let no_less = rest.2 in
+    let same : (n + 1) + more ≡ n + suc more = omega arith in
+    (rest.0, subst (λ (m : ℕ). EdgesTo block mode m rest.0) same rest.1, omega (arith, longer, no_less))
+
+-- where the first interconnects give too many edges, the mode has too many
+pub too_many : (block : PbType) (mode : Mode) (n most : ℕ) (here : Inter) (ins outs : List LocalPin) (old : List LocalEdge) → slice_get (inters_of mode) n ≡ Some here →
+    NamesPins block mode here ins outs → IsSound block mode → EdgesTo block mode n old → most < length (with_edges old (given_by here.kind n ins outs)) →
+    HasMoreEdges block mode most
+too_many block mode n most here ins outs old is names sound t many =
+    let inside = slice_get_within (inters_of mode) n here is in
+    let count : (n + 1) + (length (inters_of mode) - (n + 1)) ≡ length (inters_of mode) = omega arith in
+    let next = with_edges old (given_by here.kind n ins outs) in
+    let all = finished block mode (length (inters_of mode) - (n + 1)) (n + 1) next count sound (edges_more block mode n here ins outs old next is names refl t) in
+    let no_less = all.2 in
+    record {
+      edges = all.0;
+      are = edges_all block mode ((n + 1) + (length (inters_of mode) - (n + 1))) all.0 (omega arith) all.1;
+      more = omega (arith, many, no_less);
+    }
+
+-- what was added for an interconnect by its number
+pub inter_added : (block : PbType) (mode : Mode) (here : Inter) (n number most : ℕ) (old new : List LocalEdge) → number ≡ n → slice_get (inters_of mode) n ≡ Some here →
+    AddsInter block mode here number most old new true → EdgesTo block mode n old → EdgesTo block mode (n + 1) new × (length old ≤ most → length new ≤ most)
+inter_added block mode here n number most old new same is adds t =
+    let added = subst (λ (m : ℕ). new ≡ with_edges old (given_by here.kind m adds.ins adds.outs)) same adds.adds.0 in
+    (edges_more block mode n here adds.ins adds.outs old new is adds.names added t, adds.adds.1)
+
+pub inter_stops : (block : PbType) (mode : Mode) (here : Inter) (n number most : ℕ) (old new : List LocalEdge) → number ≡ n → slice_get (inters_of mode) n ≡ Some here →
+    AddsInter block mode here number most old new false → IsSound block mode → EdgesTo block mode n old → HasMoreEdges block mode most
+inter_stops block mode here n number most old new same is adds sound t =
+    too_many block mode n most here adds.ins adds.outs old is adds.names sound t
+    (subst (λ (m : ℕ). most < length (with_edges old (given_by here.kind m adds.ins adds.outs))) same adds.adds)

@@ -6,7 +6,14 @@ mod WordsOf
 mod WasRead
 mod OneMeaning
 mod Meanings
-mod NamesSoFar
-mod EdgeSets
 mod PairKeys
-mod Steps
+mod Gathering
+mod Walking
+mod Sources
+mod Indexes
+mod GroupsOf
+mod Counts
+mod Verdicts
+mod Kept
+mod Givens
+mod EdgeSets

@@ -1,6 +1,5 @@
 -- What a word was found to name is what it names; and where nothing was found it names nothing.
-use Rattle.std.proofs.Common.{◌≡◌, inl, inr, ℕ, List, Option, Some, None, Result, Ok, Err, IfOk, MatchOption, map, slice_get, refl, sym, ◌∙◌, ap, subst}
-use Rattle.std.specs.declared.alloc.AllocError.{AllocError}
+use Rattle.std.proofs.Common.{◌≡◌, inl, inr, ℕ, List, Option, Some, None, MatchOption, map, slice_get, refl, sym, ◌∙◌, ap, subst}
 use Rattle.std.specs.List.{flat_map}
 use Rattle.vtr_base.specs.Lists.{IsFirstPlace}
 use Rattle.arch_types.specs.declared.block.PbType.{PbType}
@@ -128,29 +127,27 @@ pub names_nothing : (block : PbType) (mode : Mode) (role : Role) (text : List �
 names_nothing block mode role text none pins a = none a.word a.is
 
 -- what a function answers where the word names exactly the pins that it finds, or none
-abbrev pub Answers : (List LocalPin → Type 0) → Result (Option PinGroup) AllocError → Type 0
-Answers P r = IfOk r (λ o. MatchOption o ((pins : List LocalPin) → P pins → ⊥) (λ g. P (pins_of g)))
+abbrev pub Answers : (List LocalPin → Type 0) → Option PinGroup → Type 0
+Answers P o = MatchOption o ((pins : List LocalPin) → P pins → ⊥) (λ g. P (pins_of g))
 
-abbrev pub AnswersWord : PinWord → (Word → List LocalPin → Type 0) → Result (Option PinGroup) AllocError → Type 0
-AnswersWord w P r =
-    IfOk r (λ o. MatchOption o ((index : Index) (pins : List LocalPin) → Stands w.bits index → P (word_with w index) pins → ⊥)
-    (λ g. (index : Index) → Stands w.bits index → P (word_with w index) (pins_of g)))
+abbrev pub AnswersWord : PinWord → (Word → List LocalPin → Type 0) → Option PinGroup → Type 0
+AnswersWord w P o =
+    MatchOption o ((index : Index) (pins : List LocalPin) → Stands w.bits index → P (word_with w index) pins → ⊥)
+    (λ g. (index : Index) → Stands w.bits index → P (word_with w index) (pins_of g))
 
-of_word : (text : List ℕ) (w : PinWord) → ReadsWord text w → (P : Word → List LocalPin → Type 0) (r : Result (Option PinGroup) AllocError) → AnswersWord w P r →
-    Answers (λ pins. (word : Word) × IsWord text word × P word pins) r
-of_word text w (index, is, stands) P (Ok None) a = λ pins named.
+of_word : (text : List ℕ) (w : PinWord) → ReadsWord text w → (P : Word → List LocalPin → Type 0) (o : Option PinGroup) → AnswersWord w P o →
+    Answers (λ pins. (word : Word) × IsWord text word × P word pins) o
+of_word text w (index, is, stands) P None a = λ pins named.
     let same = word_one text named.0 (word_with w index) named.1 is in
     a index pins stands (subst (λ (v : Word). P v pins) same named.2)
-of_word text w (index, is, stands) P (Ok (Some g)) a = (word_with w index, is, a index stands)
-of_word text w (index, is, stands) P (Err e) a = tt
+of_word text w (index, is, stands) P (Some g) a = (word_with w index, is, a index stands)
 
 answers_more : (P Q : List LocalPin → Type 0) → ((pins : List LocalPin) → P pins → Q pins) → ((pins : List LocalPin) → Q pins → P pins) →
-    (r : Result (Option PinGroup) AllocError) → Answers P r → Answers Q r
-answers_more P Q on back (Ok None) a = λ pins q. a pins (back pins q)
-answers_more P Q on back (Ok (Some g)) a = on (pins_of g) a
-answers_more P Q on back (Err e) a = tt
+    (o : Option PinGroup) → Answers P o → Answers Q o
+answers_more P Q on back None a = λ pins q. a pins (back pins q)
+answers_more P Q on back (Some g) a = on (pins_of g) a
 
-pub names_own : (block : PbType) (mode : Mode) (role : Role) (text : List ℕ) (w : PinWord) (r : Result (Option PinGroup) AllocError) → ReadsWord text w →
+pub names_own : (block : PbType) (mode : Mode) (role : Role) (text : List ℕ) (w : PinWord) (r : Option PinGroup) → ReadsWord text w →
     IsOwnHead block.name w.head.now → AnswersWord w (NamesOwn block role) r → Answers (Names block mode role text) r
 names_own block mode role text w r read own a =
     answers_more (λ pins. (word : Word) × IsWord text word × NamesOwn block role word pins) (Names block mode role text)
@@ -164,7 +161,7 @@ names_own block mode role text w r read own a =
           (word_one text (word_with w read.0) n.word read.1 n.is) own))
     ]
 
-pub names_child : (block : PbType) (mode : Mode) (role : Role) (text : List ℕ) (w : PinWord) (r : Result (Option PinGroup) AllocError) → ReadsWord text w →
+pub names_child : (block : PbType) (mode : Mode) (role : Role) (text : List ℕ) (w : PinWord) (r : Option PinGroup) → ReadsWord text w →
     (IsOwnHead block.name w.head.now → ⊥) → AnswersWord w (NamesChild block mode role) r → Answers (Names block mode role text) r
 names_child block mode role text w r read other a =
     answers_more (λ pins. (word : Word) × IsWord text word × NamesChild block mode role word pins) (Names block mode role text)

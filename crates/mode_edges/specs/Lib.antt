@@ -1,4 +1,9 @@
 pub mod PinWords
 pub mod Readers
+pub mod Scopes
+pub mod Groups
 pub mod Edges
 pub mod Pairs
+pub mod Faults
+pub mod Walks
+pub mod Gathered

@@ -1,11 +1,14 @@
 -- What the readers of pin words keep: where a text is cut, the ends of a range, and what a word
 -- was found to name.
-use Rattle.std.specs.Prelude.{◌≡◌, ◌≤◌, ◌-◌, ℕ, min, List, ◌∷◌, ◌++◌, Option, Some, None, map}
+use Rattle.std.specs.Prelude.{◌≡◌, ◌≤◌, ◌-◌, ℕ, min, List, ◌∷◌, ◌++◌, Option, Some, None, map, MatchOption}
 use Rattle.std.specs.List.{flat_map}
 use Rattle.vtr_base.specs.Lists.{up_from}
 use Rattle.vtr_base.specs.Spans.{Lacks}
-use Rattle.mode_edges.specs.PinWords.{Index, AreDigits, IsRange, IsPart, Word, IsWord, own_pin, child_pin}
+use Rattle.mode_edges.specs.PinWords.{Index, AreDigits, IsRange, IsPart, Word, IsWord, own_pin, child_pin, NamesPort}
+use Rattle.arch_types.specs.declared.block.Port.{Port}
+use Rattle.arch_types.specs.declared.block.Side.{Side}
 use Rattle.mode_edges.specs.declared.pin.LocalPin.{LocalPin}
+use Rattle.mode_edges.specs.declared.names.SidedBits.{SidedBits}
 use Rattle.mode_edges.specs.declared.pin.ChildAt.{ChildAt}
 use Rattle.mode_edges.specs.declared.names.Members.{Members}
 use Rattle.mode_edges.specs.declared.names.PinGroup.{PinGroup}
@@ -60,3 +63,10 @@ pins_at port bits (Some of) = flat_map (λ instance. map (child_pin of.child ins
 -- the pins of what a word names
 abbrev pub pins_of : PinGroup → List LocalPin
 pins_of named = pins_at named.bits.port (member_list named.bits.bits) named.of
+
+-- the port of the word's name with the bits that it wants, or none
+abbrev pub NamesBits : List Port → PinWord → Option SidedBits → Type 0
+NamesBits ports w found =
+    MatchOption found
+    ((index : Index) (side : Side) (port : ℕ) (bits : List ℕ) → Stands w.bits index → NamesPort ports (λ s. s ≡ side) (word_with w index) port bits → ⊥)
+    (λ b. (index : Index) → Stands w.bits index → NamesPort ports (λ s. s ≡ b.side) (word_with w index) b.of.port (member_list b.of.bits))

@@ -1,73 +1,72 @@
-ghost use Rattle.std.specs.Prelude.{◌≡◌, Some, slice_get, IfOk, OnOk};
+ghost use Rattle.std.specs.Prelude.{◌≡◌, ◌≤◌, ◌<◌, Some, length, slice_get, IfOk, MatchOption};
 ghost use Rattle.arch_types.specs.Tree.{inters_of};
-ghost use Rattle.mode_edges.specs.Edges.{AreEdges, Gives};
-ghost use Rattle.mode_edges.specs.Pairs.{edges_in, Adds};
-ghost use Rattle.mode_edges.specs.declared.edges.EdgeError.TheVariants.{OutOfMemory};
+ghost use Rattle.mode_edges.specs.Edges.{AreEdges, HasMoreEdges};
+ghost use Rattle.mode_edges.specs.Faults.{IsFaultless, IsSound};
+ghost use Rattle.mode_edges.specs.Pairs.{edges_in};
+ghost use Rattle.mode_edges.specs.Scopes.{IsScope};
+ghost use Rattle.mode_edges.specs.Gathered.{AddsInter};
 
-use crate::found::add_pairs;
-use crate::names::place_number;
+use crate::found::add_edges;
+use crate::groups::groups;
+use crate::index::place_number;
+use crate::names::{Scope, scope_of};
 use crate::pin::{LocalEdge, Pair, Role};
-use crate::pins::pins;
 use arch_types::{Inter, Mode, PbType};
 use indexmap::IndexMap;
 use std::alloc::{AllocError, Global};
-use thiserror::Error;
-
-/// Why the edges of a mode were not made.
-#[derive(Clone, Copy, Debug, PartialEq, Eq, Drop, Error)]
-pub enum EdgeError {
-    /// A word names no pin or a pin on the wrong side.
-    #[error("a form that is not built")]
-    NotBuilt,
-    #[error("out of memory")]
-    OutOfMemory,
-}
-
-impl From<AllocError> for EdgeError {
-    ghost from_gives = { λ _ e. e ≡ OutOfMemory };
-
-    fn from(_e: AllocError) -> EdgeError {
-        EdgeError::OutOfMemory
-    }
-}
 
 /// The edges of one mode of `block`: the pairs of pins that its interconnects give, each owned by
-/// the first interconnect that gives it (VTR architecture reference, "Interconnect").
+/// the first interconnect that gives it (VTR architecture reference, "Interconnect"). `None` where
+/// there are more than `most`, which is known before many more are made.
 pub fn edges_of_mode(
     alloc: Global,
     block: &PbType,
     mode: &Mode,
-) -> Result<Vec<LocalEdge>, EdgeError>
-    ensures { IfOk result (λ edges. AreEdges block.now mode.now edges.items) }
+    most: usize,
+) -> Result<Option<Vec<LocalEdge>>, AllocError>
+    requires { IsSound block.now mode.now }
+    ensures { IfOk result (λ r. MatchOption r (HasMoreEdges block.now mode.now most) (λ edges. AreEdges block.now mode.now edges.items × (length edges.items ≤ most))) }
 {
+    let scope = scope_of(alloc, block, mode)?;
     let mut found = IndexMap::new(alloc);
     for (place, inter) in mode.inters.as_slice().iter().enumerate() {
         let number = place_number(place)?;
-        add_inter(alloc, &mut found, block, mode, inter, number)?;
+        if !add_inter(alloc, &mut found, &scope, inter, number, most)? {
+            return Ok(None);
+        }
     }
-    Ok(edges_found(alloc, &found)?)
+    Ok(Some(edges_found(alloc, &found)?))
 }
 
-/// Adds the pairs that one interconnect gives and that weren't there.
+/// Adds the edges that one interconnect gives and that weren't there. False where there would be
+/// more than `most`.
 fn add_inter(
     alloc: Global,
     found: &mut IndexMap<Pair, u32>,
-    block: &PbType,
-    mode: &Mode,
+    scope: &Scope<'_>,
     inter: &Inter,
     number: u32,
-) -> Result<(), EdgeError>
-    requires { slice_get (inters_of mode.now) number ≡ Some inter.now }
-    ensures { OnOk result (Adds (edges_in found.old) (edges_in found.new) number (Gives block.now mode.now number)) }
+    most: usize,
+) -> Result<bool, AllocError>
+    requires scope { IsScope scope.now }
+    requires faultless { IsFaultless scope.now.block.now scope.now.mode.now inter.now }
+    ensures { IfOk result (λ all. AddsInter scope.now.block.now scope.now.mode.now inter.now number most (edges_in found.old) (edges_in found.new) all) }
 {
-    let Some(ins) = pins(alloc, block, mode, Role::Source, inter.input.as_bytes())? else {
-        return Err(EdgeError::NotBuilt);
+    let Some(ins) = groups(alloc, scope, Role::Source, inter.input.as_bytes())? else {
+        unreachable!()
     };
-    let Some(outs) = pins(alloc, block, mode, Role::End, inter.output.as_bytes())? else {
-        return Err(EdgeError::NotBuilt);
+    let Some(outs) = groups(alloc, scope, Role::End, inter.output.as_bytes())? else {
+        unreachable!()
     };
-    add_pairs(found, inter.kind, ins.as_slice(), outs.as_slice(), number)?;
-    Ok(())
+    Ok(add_edges(
+        alloc,
+        found,
+        inter.kind,
+        ins.as_slice(),
+        outs.as_slice(),
+        number,
+        most,
+    )?)
 }
 
 /// The edges of pairs with their owners, in the order in which the pairs came.

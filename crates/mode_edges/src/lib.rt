@@ -3,14 +3,16 @@
 #![tactic(auto)]
 
 mod edges;
+mod faults;
 mod found;
+mod groups;
+mod index;
 mod names;
 mod pin;
-mod pins;
 mod split;
-#[cfg(test)]
-mod tests;
+mod walk;
 mod word;
 
-pub use edges::{EdgeError, edges_of_mode};
+pub use edges::edges_of_mode;
+pub use faults::{EdgeError, check_mode};
 pub use pin::{ChildAt, LocalEdge, LocalPin, Role};

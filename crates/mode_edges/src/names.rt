@@ -1,13 +1,16 @@
 ghost use Rattle.std.specs.Prelude.{◌≡◌, ◌↔◌, ℕ, List, Some, map, slice_get, IsTrue, IfOk, MatchOption};
 ghost use Rattle.vtr_base.specs.Lists.{IsFirstPlace};
-ghost use Rattle.mode_edges.specs.PinWords.{Index, AreMembers, IsOwnHead, IsOwnSide, IsChildSide, NamesPort, NamesOwn, NamesChild, Names};
-ghost use Rattle.mode_edges.specs.Readers.{Stands, word_with, member_list, pins_of};
+ghost use Rattle.arch_types.specs.Tree.{kids_of};
+ghost use Rattle.mode_edges.specs.PinWords.{Index, AreMembers, IsOwnHead, IsOwnSide, IsChildSide, NamesOwn, NamesChild, Names};
+ghost use Rattle.mode_edges.specs.Readers.{Stands, word_with, member_list, pins_of, NamesBits};
+ghost use Rattle.mode_edges.specs.Scopes.{places_in, IsIndex, IndexAll, IsScope};
 ghost use Rattle.mode_edges.specs.declared.pin.LocalPin.{LocalPin};
 
+use crate::index::{NameIndex, find_name, index_kids, index_ports};
 use crate::pin::Role;
 use crate::word::{Ends, PinWord, part, word};
 use arch_types::{Mode, PbType, Port, Side};
-use std::alloc::AllocError;
+use std::alloc::{AllocError, Global};
 
 /// The members of a range: from `low` on, below `end`.
 #[derive(Clone, Copy, Debug, PartialEq, Eq)]
@@ -45,101 +48,153 @@ pub struct PinGroup {
     pub bits: PortBits,
 }
 
+/// The names that the pin words of a mode can name, found once for all of its words.
+#[derive(Drop)]
+pub struct Scope<'a> {
+    pub(crate) block: &'a PbType,
+    pub(crate) mode: &'a Mode,
+    pub(crate) ports: NameIndex<'a>,
+    pub(crate) kids: NameIndex<'a>,
+    /// Of each child its ports.
+    pub(crate) kid_ports: Vec<NameIndex<'a>>,
+}
+
+/// The names in sight of the pin words of a mode.
+pub(crate) fn scope_of<'a>(
+    alloc: Global,
+    block: &'a PbType,
+    mode: &'a Mode,
+) -> Result<Scope<'a>, AllocError>
+    ensures is { IfOk result IsScope }
+    ensures block { IfOk result (λ s. s.block.now ≡ block.now) }
+    ensures mode { IfOk result (λ s. s.mode.now ≡ mode.now) }
+{
+    let ports = index_ports(alloc, block.ports.as_slice())?;
+    let kids = index_kids(alloc, mode.kids.as_slice())?;
+    let kid_ports = index_all(alloc, mode.kids.as_slice())?;
+    Ok(Scope {
+        block,
+        mode,
+        ports,
+        kids,
+        kid_ports,
+    })
+}
+
+/// Of each child the first places of its ports' names.
+fn index_all<'a>(alloc: Global, kids: &'a [PbType]) -> Result<Vec<NameIndex<'a>>, AllocError>
+    ensures { IfOk result (λ all. IndexAll kids.now all.items) }
+{
+    let mut all = Vec::new(alloc);
+    for kid in kids {
+        all.push(index_ports(alloc, kid.ports.as_slice())?)?;
+    }
+    Ok(all)
+}
+
 /// What a pin word names, where it names pins on the right side for the role.
-pub(crate) fn named(
-    block: &PbType,
-    mode: &Mode,
-    role: Role,
-    text: &[u8],
-) -> Result<Option<PinGroup>, AllocError>
-    ensures { IfOk result (λ r. MatchOption r ((pins : List LocalPin) → Names block.now mode.now role text.now pins → ⊥) (λ named. Names block.now mode.now role text.now (pins_of named))) }
+pub(crate) fn named(scope: &Scope<'_>, role: Role, text: &[u8]) -> Option<PinGroup>
+    requires { IsScope scope.now }
+    ensures { MatchOption result ((pins : List LocalPin) → Names scope.now.block.now scope.now.mode.now role text.now pins → ⊥) (λ named. Names scope.now.block.now scope.now.mode.now role text.now (pins_of named)) }
 {
     let Some(word) = word(text) else {
-        return Ok(None);
+        return None;
     };
-    if is_own_head(block.name.as_bytes(), word.head) {
-        named_own(block, role, &word)
+    if is_own_head(scope.block.name.as_bytes(), word.head) {
+        named_own(scope, role, &word)
     } else {
-        named_child(block, mode, role, &word)
+        named_child(scope, role, &word)
     }
 }
 
 /// What a word names of the block itself, whose name it bears.
-fn named_own(block: &PbType, role: Role, word: &PinWord<'_>) -> Result<Option<PinGroup>, AllocError>
-    requires { IsOwnHead block.now.name word.now.head.now }
-    ensures { IfOk result (λ r. MatchOption r ((index : Index) (pins : List LocalPin) → Stands word.now.bits index → NamesOwn block.now role (word_with word.now index) pins → ⊥) (λ named. (index : Index) → Stands word.now.bits index → NamesOwn block.now role (word_with word.now index) (pins_of named))) }
+fn named_own(scope: &Scope<'_>, role: Role, word: &PinWord<'_>) -> Option<PinGroup>
+    requires scope { IsScope scope.now }
+    requires own { IsOwnHead scope.now.block.now.name word.now.head.now }
+    ensures { MatchOption result ((index : Index) (pins : List LocalPin) → Stands word.now.bits index → NamesOwn scope.now.block.now role (word_with word.now index) pins → ⊥) (λ named. (index : Index) → Stands word.now.bits index → NamesOwn scope.now.block.now role (word_with word.now index) (pins_of named)) }
 {
-    let Some(found) = port_bits(block.ports.as_slice(), word)? else {
-        return Ok(None);
+    let Some(found) = port_bits(&scope.ports, scope.block.ports.as_slice(), word) else {
+        return None;
     };
     if !is_own_side(role, found.side) {
-        return Ok(None);
+        return None;
     }
-    Ok(Some(PinGroup {
+    Some(PinGroup {
         of: None,
         bits: found.of,
-    }))
+    })
 }
 
 /// What a word names of a child, where it doesn't bear the name of the block itself.
-fn named_child(
-    block: &PbType,
-    mode: &Mode,
-    role: Role,
-    word: &PinWord<'_>,
-) -> Result<Option<PinGroup>, AllocError>
-    requires { IsOwnHead block.now.name word.now.head.now → ⊥ }
-    ensures { IfOk result (λ r. MatchOption r ((index : Index) (pins : List LocalPin) → Stands word.now.bits index → NamesChild block.now mode.now role (word_with word.now index) pins → ⊥) (λ named. (index : Index) → Stands word.now.bits index → NamesChild block.now mode.now role (word_with word.now index) (pins_of named))) }
+fn named_child(scope: &Scope<'_>, role: Role, word: &PinWord<'_>) -> Option<PinGroup>
+    requires scope { IsScope scope.now }
+    requires other { IsOwnHead scope.now.block.now.name word.now.head.now → ⊥ }
+    ensures { MatchOption result ((index : Index) (pins : List LocalPin) → Stands word.now.bits index → NamesChild scope.now.block.now scope.now.mode.now role (word_with word.now index) pins → ⊥) (λ named. (index : Index) → Stands word.now.bits index → NamesChild scope.now.block.now scope.now.mode.now role (word_with word.now index) (pins_of named)) }
 {
     let Some((name, ends)) = part(word.head) else {
-        return Ok(None);
+        return None;
     };
-    let Some((place, kid)) = find_kid(mode.kids.as_slice(), name) else {
-        return Ok(None);
+    let Some((child, kid)) = find_kid(scope, name) else {
+        return None;
     };
     let Some(members) = members_of(ends, kid.count) else {
-        return Ok(None);
+        return None;
     };
-    let Some(found) = port_bits(kid.ports.as_slice(), word)? else {
-        return Ok(None);
+    let Some(found) = kid_bits(scope, child, kid, word) else {
+        return None;
     };
     if !is_child_side(role, found.side) {
-        return Ok(None);
+        return None;
     }
-    let child = place_number(place)?;
-    Ok(Some(PinGroup {
+    Some(PinGroup {
         of: Some(Instances { child, members }),
         bits: found.of,
-    }))
+    })
+}
+
+/// The first child of that name, and its place.
+fn find_kid<'a>(scope: &Scope<'a>, name: &[u8]) -> Option<(u32, &'a PbType)>
+    requires { IsScope scope.now }
+    ensures { MatchOption result ((place : ℕ) → IsFirstPlace (map (λ kid. kid.name) (kids_of scope.now.mode.now)) name.now place → ⊥) (λ found. IsFirstPlace (map (λ kid. kid.name) (kids_of scope.now.mode.now)) name.now found.0 × (slice_get (kids_of scope.now.mode.now) found.0 ≡ Some found.1.now)) }
+{
+    let place = find_name(&scope.kids, name)?;
+    let kids = scope.mode.kids.as_slice();
+    Some((place, &kids[place as usize]))
+}
+
+/// The bits that a word names of a child's port.
+fn kid_bits(scope: &Scope<'_>, child: u32, kid: &PbType, word: &PinWord<'_>) -> Option<SidedBits>
+    requires scope { IsScope scope.now }
+    requires kid { slice_get (kids_of scope.now.mode.now) child ≡ Some kid.now }
+    ensures { NamesBits kid.now.ports word.now result }
+{
+    port_bits(&scope.kid_ports[child as usize], kid.ports.as_slice(), word)
 }
 
 /// The bits that a word names of the port of that name.
-fn port_bits(ports: &[Port], word: &PinWord<'_>) -> Result<Option<SidedBits>, AllocError>
-    ensures { IfOk result (λ r. MatchOption r ((index : Index) (side : Side) (port : ℕ) (bits : List ℕ) → Stands word.now.bits index → NamesPort ports.now (λ s. s ≡ side) (word_with word.now index) port bits → ⊥) (λ found. (index : Index) → Stands word.now.bits index → NamesPort ports.now (λ s. s ≡ found.side) (word_with word.now index) found.of.port (member_list found.of.bits))) }
+fn port_bits(index: &NameIndex<'_>, ports: &[Port], word: &PinWord<'_>) -> Option<SidedBits>
+    requires { IsIndex (map (λ p. p.name) ports.now) (places_in index.now) }
+    ensures { NamesBits ports.now word.now result }
 {
-    let Some((place, port)) = find_port(ports, word.port) else {
-        return Ok(None);
+    let Some((place, port)) = find_port(index, ports, word.port) else {
+        return None;
     };
     let Some(bits) = members_of(word.bits, port.width) else {
-        return Ok(None);
+        return None;
     };
-    Ok(Some(SidedBits {
-        of: PortBits {
-            port: place_number(place)?,
-            bits,
-        },
+    Some(SidedBits {
+        of: PortBits { port: place, bits },
         side: port.side,
-    }))
+    })
 }
 
-/// A place in a list as a number of 32 bits. A list of more than 2^32 is told as want of memory.
-pub(crate) fn place_number(place: usize) -> Result<u32, AllocError>
-    ensures { IfOk result (λ n. n ≡ place) }
+/// The first port of that name, and its place.
+fn find_port<'a>(index: &NameIndex<'_>, ports: &'a [Port], name: &[u8]) -> Option<(u32, &'a Port)>
+    requires { IsIndex (map (λ p. p.name) ports.now) (places_in index.now) }
+    ensures { MatchOption result ((place : ℕ) → IsFirstPlace (map (λ p. p.name) ports.now) name.now place → ⊥) (λ found. IsFirstPlace (map (λ p. p.name) ports.now) name.now found.0 × (slice_get ports.now found.0 ≡ Some found.1.now)) }
 {
-    match u32::try_from(place) {
-        Ok(number) => Ok(number),
-        Err(_) => Err(AllocError),
-    }
+    let place = find_name(index, name)?;
+    Some((place, &ports[place as usize]))
 }
 
 /// The members of `count` that an index names, where it names none outside.
@@ -158,30 +213,6 @@ fn members_of(ends: Option<Ends>, count: u32) -> Option<Members>
             })
         }
     }
-}
-
-/// The first port of that name, and its place.
-fn find_port<'a>(ports: &'a [Port], name: &[u8]) -> Option<(usize, &'a Port)>
-    ensures { MatchOption result ((place : ℕ) → IsFirstPlace (map (λ p. p.name) ports.now) name.now place → ⊥) (λ found. IsFirstPlace (map (λ p. p.name) ports.now) name.now found.0 × (slice_get ports.now found.0 ≡ Some found.1.now)) }
-{
-    for (place, port) in ports.iter().enumerate() {
-        if port.name.is(name) {
-            return Some((place, port));
-        }
-    }
-    None
-}
-
-/// The first child of that name, and its place.
-fn find_kid<'a>(kids: &'a [PbType], name: &[u8]) -> Option<(usize, &'a PbType)>
-    ensures { MatchOption result ((place : ℕ) → IsFirstPlace (map (λ kid. kid.name) kids.now) name.now place → ⊥) (λ found. IsFirstPlace (map (λ kid. kid.name) kids.now) name.now found.0 × (slice_get kids.now found.0 ≡ Some found.1.now)) }
-{
-    for (place, kid) in kids.iter().enumerate() {
-        if kid.name.is(name) {
-            return Some((place, kid));
-        }
-    }
-    None
 }
 
 /// Whether what stands before a word's dot is the name of the block itself.

@@ -1,18 +1,53 @@
-use Rattle.std.proofs.Common.{◌≤◌, length, subst, sym, ap, arith}
+use Rattle.std.proofs.Common.{◌≡◌, ◌≤◌, true, false, [], length, map, subst, sym, ap, arith}
 use Rattle.arch_types.specs.Tree.{inters_of}
-use Rattle.mode_edges.specs.Edges.{Gives, AreEdges}
-use Rattle.mode_edges.specs.Pairs.{edges_in, Adds}
-use Rattle.mode_edges.proofs.EdgeSets.{edges_more, edges_all}
+use Rattle.mode_edges.specs.Edges.{AreEdges}
+use Rattle.mode_edges.specs.Faults.{IsFaultless}
+use Rattle.mode_edges.specs.Gathered.{AddsInter}
+use Rattle.mode_edges.specs.Pairs.{edge_of, edges_in}
+use Rattle.mode_edges.proofs.EdgeSets.{EdgesTo, edges_none, edges_all, inter_added, inter_stops}
+use Rattle.mode_edges.proofs.Verdicts.{inter_at, in_scope}
 use Rattle.mode_edges.proofs.edges.edges_of_mode.Goals as goal
+
+pub loop-place-init : goal.loop-place-init
+loop-place-init c =
+    let none : edges_in c.new-found.result ≡ [] = ap (map (λ entry. edge_of entry.0 entry.1)) c.new-found.ensures.empty in
+    record {
+      edges = subst (EdgesTo c.args.block.now c.args.mode.now 0) (sym none) (edges_none c.args.block.now c.args.mode.now);
+      few = omega (arith, ap length none);
+    }
+
+pub add_inter-requires-clause-faultless : goal.add_inter-requires-clause-faultless
+add_inter-requires-clause-faultless c =
+    let at = inter_at c.args.mode.now c.as_slice-inter-items.result.now c.loop-place.place c.inter-item.result c.as_slice-inter-items.ensures c.loop-place-test.true
+    c.inter-item.is in
+    in_scope (λ b m. IsFaultless b m c.inter-item.result) c.in_ok-scope.scope.block.now c.args.block.now c.in_ok-scope.scope.mode.now c.args.mode.now
+    (sym c.in_ok-scope.ensures.block) (sym c.in_ok-scope.ensures.mode) (c.requires c.loop-place.place c.inter-item.result at)
+
+pub returns-then-not-branch : goal.returns-then-not-branch
+returns-then-not-branch c =
+    let at = inter_at c.args.mode.now c.as_slice-inter-items.result.now c.loop-place.place c.inter-item.result c.as_slice-inter-items.ensures c.loop-place-test.true
+    c.inter-item.is in
+    inter_stops c.args.block.now c.args.mode.now c.inter-item.result c.loop-place.place c.in_ok-number.number c.args.most (edges_in c.loop-place.found)
+    (edges_in c.add_inter.new.found) c.in_ok-number.ensures at
+    (in_scope (λ b m. AddsInter b m c.inter-item.result c.in_ok-number.number c.args.most (edges_in c.loop-place.found) (edges_in c.add_inter.new.found) false)
+    c.args.block.now c.in_ok-scope.scope.block.now c.args.mode.now c.in_ok-scope.scope.mode.now c.in_ok-scope.ensures.block c.in_ok-scope.ensures.mode
+    (rw c.if-not-branch.true at c.in_ok-add_inter.ensures)) c.requires c.loop-place.invariant.edges
 
 pub loop-place-preserved : goal.loop-place-preserved
 loop-place-preserved c =
-    edges_more c.args.block.now c.args.mode.now c.loop-place.place (edges_in c.loop-place.found) (edges_in c.add_inter.new.found) c.loop-place.invariant
-    (subst (λ n. Adds (edges_in c.loop-place.found) (edges_in c.add_inter.new.found) n (Gives c.args.block.now c.args.mode.now n)) c.in_ok-number.ensures
-    c.in_ok-add_inter.ensures)
+    let at = inter_at c.args.mode.now c.as_slice-inter-items.result.now c.loop-place.place c.inter-item.result c.as_slice-inter-items.ensures c.loop-place-test.true
+    c.inter-item.is in
+    let added = inter_added c.args.block.now c.args.mode.now c.inter-item.result c.loop-place.place c.in_ok-number.number c.args.most (edges_in c.loop-place.found)
+    (edges_in c.add_inter.new.found) c.in_ok-number.ensures at
+    (in_scope (λ b m. AddsInter b m c.inter-item.result c.in_ok-number.number c.args.most (edges_in c.loop-place.found) (edges_in c.add_inter.new.found) true)
+    c.args.block.now c.in_ok-scope.scope.block.now c.args.mode.now c.in_ok-scope.scope.mode.now c.in_ok-scope.ensures.block c.in_ok-scope.ensures.mode
+    (rw c.if-not-branch.false at c.in_ok-add_inter.ensures)) c.loop-place.invariant.edges in
+    record { edges = added.0; few = added.1 c.loop-place.invariant.few }
 
 pub returns : goal.returns
 returns c =
-    let end : length (inters_of c.args.mode.now) ≤ c.loop-place.place = omega (arith, ap length c.as_slice-inter-items.ensures) in
-    subst (AreEdges c.args.block.now c.args.mode.now) (sym c.in_ok-edges_found.ensures)
-    (edges_all c.args.block.now c.args.mode.now c.loop-place.place (edges_in c.loop-place.found) end c.loop-place.invariant)
+    let end : length (inters_of c.args.mode.now) ≤ c.loop-place.place = omega (arith, ap length c.as_slice-inter-items.ensures) in (
+      subst (AreEdges c.args.block.now c.args.mode.now) (sym c.in_ok-edges_found.ensures)
+          (edges_all c.args.block.now c.args.mode.now c.loop-place.place (edges_in c.loop-place.found) end c.loop-place.invariant.edges),
+      subst (λ l. length l ≤ c.args.most) (sym c.in_ok-edges_found.ensures) c.loop-place.invariant.few,
+    )

@@ -4,5 +4,5 @@ use Rattle.mode_edges.proofs.names.named_own.Goals as goal
 
 pub returns-in_default : goal.returns-in_default
 returns-in_default c =
-    let none = rw c.in_default.is at c.in_ok-found.ensures in
-    no_own_port c.args.block.now c.args.role c.args.word.now (subst (λ ports. NoPort ports c.args.word.now) c.as_slice.ensures none)
+    no_own_port c.args.scope.now.block.now c.args.role c.args.word.now
+    (subst (λ ports. NoPort ports c.args.word.now) c.as_slice.ensures c.in_default.ensures)

@@ -1,0 +1,7 @@
+use Rattle.std.proofs.Common.{map}
+use Rattle.mode_edges.specs.Scopes.{places_in}
+use Rattle.mode_edges.proofs.Indexes.{IsIndexTo}
+use Rattle.mode_edges.proofs.index.index_kids.Given as goal
+
+abbrev pub invariant-loop-place : goal.invariant-loop-place
+invariant-loop-place l = IsIndexTo (map (λ kid. kid.name) l.kids) l.place (places_in l.index)
