@@ -15,8 +15,8 @@ use Rattle.pb_expand.specs.declared.number.Edge.{Edge}
 use Rattle.pb_expand.specs.declared.number.PinAt.{PinAt}
 use Rattle.pb_expand.specs.Graph.{pin_at}
 use Rattle.pb_expand.specs.Expansion.{owner_address, IsNotAfter}
-use Rattle.pb_expand.specs.Making.{AreOnce, Stands, edge_at, IsPlaced, AddsPlaced, IsMade, IsBefore, AreBefore}
-use Rattle.pb_expand.proofs.Lists.{get_either, element, has_at, at_has, snoc_last}
+use Rattle.pb_expand.specs.Making.{AreOnce, Stands, edge_at, IsPlaced, AddsPlaced, IsMade, IsBefore, IsPart, AreBefore}
+use Rattle.pb_expand.proofs.Lists.{get_front, get_behind, get_either, element, has_at, at_has, snoc_last}
 
 abbrev child_of : ℕ → ℕ → ChildAt
 child_of child instance = record { child = child; instance = instance }
@@ -228,5 +228,44 @@ module _ (blocks : List PbType) (instances : List Address) (pins : List PinAt) (
           let inters = are.ordered x.0 y.0 p.l q.l less p.at q.at in
           inr (owner_is x.0 e p ∙ sym (owner_is y.0 f q), inr (mode_is x.0 e p ∙ sym (mode_is y.0 f q), omega (arith, inters, inter_is x.0 e p, inter_is y.0 f q)))
 
+  -- the edges of this mode that were added stand behind those that were there
+  part_here : (block' : PbType) (is : Mode) → slice_get blocks n ≡ Some block' → slice_get (modes_of block'.kind) m ≡ Some is → IsPart instances pins new n m block' is
+  part_here block' is at_n at_m =
+      let here : block ≡ block' = cc (is_block, at_n) in
+      let there : mode ≡ is = one_mode block block' m m mode is here refl is_mode at_m in
+      record {
+        local = local;
+        are = subst (λ x. AreEdges block' x local) there (subst (λ b. AreEdges b mode local) here are);
+        from = length old;
+        placed = λ k l at_l.
+            let e = element adds.more k (omega (arith, slice_get_within local k l at_l, adds.all)) in
+            (e.0, ap (λ es. slice_get es (length old + k)) adds.is ∙ get_behind old adds.more k e.0 e.1, adds.placed k l e.0 at_l e.1);
+      }
+
+  part_there : (o p : ℕ) (block' : PbType) (is : Mode) → IsPart instances pins old o p block' is → IsPart instances pins new o p block' is
+  part_there o p block' is part = record {
+    local = part.local;
+    are = part.are;
+    from = part.from;
+    placed = λ k l at_l.
+        let e = part.placed k l at_l in
+        (e.0, ap (λ es. slice_get es (part.from + k)) adds.is ∙ get_front old adds.more (part.from + k) e.0 e.1, e.2);
+  }
+
+  batch_parts : (o p : ℕ) (block' : PbType) (is : Mode) → (o < n) ⊎ ((o ≡ n) × (p < m + 1)) → slice_get blocks o ≡ Some block' → slice_get (modes_of block'.kind) p ≡ Some is →
+      IsPart instances pins new o p block' is
+  batch_parts o p block' is (inl low) at_o at_p = part_there o p block' is (before.parts o p block' is (inl low) at_o at_p)
+  batch_parts o p block' is (inr low) at_o at_p = by (eq-or-lt_of_le below)
+    where
+      below : p ≤ m
+      below = omega (arith, low.1)
+
+      by : (p ≡ m) ⊎ (p < m) → IsPart instances pins new o p block' is
+      by (inl same) =
+          let at_n : slice_get blocks n ≡ Some block' = ap (λ k. slice_get blocks k) (sym low.0) ∙ at_o in
+          let at_m : slice_get (modes_of block'.kind) m ≡ Some is = ap (λ k. slice_get (modes_of block'.kind) k) (sym same) ∙ at_p in
+          subst (λ k. IsPart instances pins new k p block' is) (sym low.0) (subst (λ k. IsPart instances pins new n k block' is) (sym same) (part_here block' is at_n at_m))
+      by (inr less) = part_there o p block' is (before.parts o p block' is (inr (low.0, less)) at_o at_p)
+
   pub batch : AreBefore blocks instances pins n (m + 1) new
-  batch = record { each = batch_each; all = batch_all; once = batch_once; ordered = batch_ordered }
+  batch = record { each = batch_each; all = batch_all; once = batch_once; ordered = batch_ordered; parts = batch_parts }

@@ -3,6 +3,7 @@ use Rattle.std.proofs.Common.{◌≡◌, ◌+◌, ◌<◌, ◌≤◌, ◌⊎◌,
 use Rattle.std.proofs.lemmas.List.{append-nil, take_more, length-take}
 use Rattle.std.proofs.lemmas.Option.{slice_get_within, option_and_then_some}
 use Rattle.arch_types.specs.declared.block.PbType.{PbType}
+use Rattle.arch_types.specs.declared.block.Mode.{Mode}
 use Rattle.arch_types.specs.Tree.{modes_of}
 use Rattle.arch_types.specs.Address.{Address, at, step_to}
 use Rattle.mode_edges.specs.declared.pin.LocalEdge.{LocalEdge}
@@ -13,7 +14,7 @@ use Rattle.pb_expand.specs.declared.number.PinAt.{PinAt}
 use Rattle.pb_expand.specs.declared.number.Step.{Step}
 use Rattle.pb_expand.specs.Graph.{Graph, block_at, step_from}
 use Rattle.pb_expand.specs.Rows.{addresses, IsTree}
-use Rattle.pb_expand.specs.Expansion.{owner_address, StandsAt, IsEdgeOf, HasEdges}
+use Rattle.pb_expand.specs.Expansion.{owner_address, StandsAt, IsEdgeOf, StandTogether, HasEdges}
 use Rattle.pb_expand.specs.Making.{AreBlocks, AreShort, Stands, IsPlaced, AddsPlaced, IsMade, IsBefore, AreBefore}
 use Rattle.pb_expand.proofs.Lists.{get_either}
 use Rattle.pb_expand.proofs.RowLemmas.{row_says}
@@ -58,8 +59,13 @@ none_before blocks instances pins = record {
   all = λ e is before. absurd (none e before);
   once = λ i j e f at_i at_j owners modes sources ends. absurd (cc);
   ordered = λ i j e f low at_i at_j. absurd (cc);
+  parts = λ o m block is low at_o at_m. absurd (no_part o m low);
 }
   where
+    no_part : (o m : ℕ) → (o < 0) ⊎ ((o ≡ 0) × (m < 0)) → ⊥
+    no_part o m (inl low) = omega arith
+    no_part o m (inr low) = let bad = low.1 in omega arith
+
     none : (e : Edge) → IsBefore 0 0 e → ⊥
     none e (inl low) = omega arith
     none e (inr low) = let bad = low.1 in omega arith
@@ -72,8 +78,25 @@ mode_ends blocks instances pins n m block edges at done before = record {
   all = λ e is low. before.all e is (within e is low);
   once = before.once;
   ordered = before.ordered;
+  parts = λ o p b is low at_o at_p. before.parts o p b is (part_within o p b is low at_o at_p) at_o at_p;
 }
   where
+    part_within : (o p : ℕ) (b : PbType) (is : Mode) → (o < n + 1) ⊎ ((o ≡ n + 1) × (p < 0)) → slice_get blocks o ≡ Some b → slice_get (modes_of b.kind) p ≡ Some is →
+        (o < n) ⊎ ((o ≡ n) × (p < m))
+    part_within o p b is (inr low) at_o at_p = let bad = low.1 in absurd (omega arith)
+    part_within o p b is (inl low) at_o at_p = by (eq-or-lt_of_le below)
+      where
+        below : o ≤ n
+        below = omega arith
+
+        by : (o ≡ n) ⊎ (o < n) → (o < n) ⊎ ((o ≡ n) × (p < m))
+        by (inr less) = inl less
+        by (inl same) =
+            let found : Some b ≡ Some block = sym at_o ∙ ap (λ k. slice_get blocks k) same ∙ at in
+            let here : b ≡ block = cc in
+            let lengths = ap (λ (x : PbType). length (modes_of x.kind)) here in
+            inr (same, omega (arith, slice_get_within (modes_of b.kind) p is at_p, lengths))
+
     wider : (e : Edge) → IsBefore n m e → IsBefore (n + 1) 0 e
     wider e (inl low) = inl (omega arith)
     wider e (inr low) = let is = low.0 in inl (omega arith)
@@ -91,55 +114,84 @@ mode_ends blocks instances pins n m block edges at done before = record {
     within e is (inl low) = elim (eq-or-lt_of_le (at_most e low)) [ inl same ↦ inr (same, last e is same) | inr less ↦ inl less ]
     within e is (inr low) = let bad = low.1 in absurd (omega arith)
 
+there : (g : Graph) (n : ℕ) (a : Address) (m : ℕ) (p : LocalPin) → Stands g.instances g.pins n a m p → StandsAt g n a m p
+there g n a m p s = record { pb = s.pb; is_pin = s.is_pin; is_instance = s.is_instance }
+
+back : (g : Graph) (n : ℕ) (a : Address) (m : ℕ) (p : LocalPin) → StandsAt g n a m p → Stands g.instances g.pins n a m p
+back g n a m p s = record { pb = s.pb; is_pin = s.is_pin; is_instance = s.is_instance }
+
+pub is_edge : (g : Graph) (blocks : List PbType) (e : Edge) → AreBlocks g.root g.instances blocks → IsMade blocks g.instances g.pins e → IsEdgeOf g e
+is_edge g blocks e are is =
+    let block = are.each e.owner.0 is.address is.is_owner in
+    let same : block.0 ≡ is.block = cc (block.2, is.is_block) in
+    record {
+      address = is.address;
+      is_owner = is.is_owner;
+      block = is.block;
+      is_block = block.1 ∙ ap Some same;
+      mode = is.mode;
+      is_mode = is.is_mode;
+      src = is.src;
+      dst = is.dst;
+      edge = is.edge;
+      is_src = there g e.src.0 is.address e.mode is.src is.is_src;
+      is_dst = there g e.dst.0 is.address e.mode is.dst is.is_dst;
+    }
+
+pub is_made : (g : Graph) (blocks : List PbType) (e : Edge) → AreBlocks g.root g.instances blocks → IsEdgeOf g e → IsMade blocks g.instances g.pins e
+is_made g blocks e are is =
+    let block = are.each e.owner.0 is.address is.is_owner in
+    let same : block.0 ≡ is.block = cc (block.1, is.is_block) in
+    record {
+      address = is.address;
+      is_owner = is.is_owner;
+      block = is.block;
+      is_block = block.2 ∙ ap Some same;
+      mode = is.mode;
+      is_mode = is.is_mode;
+      src = is.src;
+      dst = is.dst;
+      edge = is.edge;
+      is_src = back g e.src.0 is.address e.mode is.src is.is_src;
+      is_dst = back g e.dst.0 is.address e.mode is.dst is.is_dst;
+    }
+
 -- all instances were passed: these are the edges of the graph
 pub has_edges : (g : Graph) (blocks : List PbType) → AreBlocks g.root g.instances blocks → AreBefore blocks g.instances g.pins (length blocks) 0 g.edges → HasEdges g
 has_edges g blocks are before = record {
-  each = λ e has. is_edge e (before.each e has).0;
-  all = λ e is. let made = is_made e is in before.all e made (inl (slice_get_within blocks e.owner.0 made.block made.is_block));
+  each = λ e has. is_edge g blocks e are (before.each e has).0;
+  all = λ e is. let made = is_made g blocks e are is in before.all e made (inl (slice_get_within blocks e.owner.0 made.block made.is_block));
   once = before.once;
   ordered = before.ordered;
+  together = stand_together;
 }
   where
-    there : (n : ℕ) (a : Address) (m : ℕ) (p : LocalPin) → Stands g.instances g.pins n a m p → StandsAt g n a m p
-    there n a m p s = record { pb = s.pb; is_pin = s.is_pin; is_instance = s.is_instance }
-
-    back : (n : ℕ) (a : Address) (m : ℕ) (p : LocalPin) → StandsAt g n a m p → Stands g.instances g.pins n a m p
-    back n a m p s = record { pb = s.pb; is_pin = s.is_pin; is_instance = s.is_instance }
-
-    is_edge : (e : Edge) → IsMade blocks g.instances g.pins e → IsEdgeOf g e
-    is_edge e is =
-        let block = are.each e.owner.0 is.address is.is_owner in
-        let same : block.0 ≡ is.block = cc (block.2, is.is_block) in
+    stand_together : (owner : ℕ) (address : Address) (block : PbType) (m : ℕ) (mode : Mode) → slice_get g.instances owner ≡ Some address → at g.root address ≡ Some block →
+        slice_get (modes_of block.kind) m ≡ Some mode → StandTogether g owner address m block mode
+    stand_together owner address block m mode at_owner is_block is_mode =
+        let found = are.each owner address at_owner in
+        let same : found.0 ≡ block = cc (found.1, is_block) in
+        let at_blocks : slice_get blocks owner ≡ Some block = found.2 ∙ ap Some same in
+        let part = before.parts owner m block mode (inl (slice_get_within blocks owner block at_blocks)) at_blocks is_mode in
         record {
-          address = is.address;
-          is_owner = is.is_owner;
-          block = is.block;
-          is_block = block.1 ∙ ap Some same;
-          mode = is.mode;
-          is_mode = is.is_mode;
-          src = is.src;
-          dst = is.dst;
-          edge = is.edge;
-          is_src = there e.src.0 is.address e.mode is.src is.is_src;
-          is_dst = there e.dst.0 is.address e.mode is.dst is.is_dst;
-        }
-
-    is_made : (e : Edge) → IsEdgeOf g e → IsMade blocks g.instances g.pins e
-    is_made e is =
-        let block = are.each e.owner.0 is.address is.is_owner in
-        let same : block.0 ≡ is.block = cc (block.1, is.is_block) in
-        record {
-          address = is.address;
-          is_owner = is.is_owner;
-          block = is.block;
-          is_block = block.2 ∙ ap Some same;
-          mode = is.mode;
-          is_mode = is.is_mode;
-          src = is.src;
-          dst = is.dst;
-          edge = is.edge;
-          is_src = back e.src.0 is.address e.mode is.src is.is_src;
-          is_dst = back e.dst.0 is.address e.mode is.dst is.is_dst;
+          local = part.local;
+          are = part.are;
+          from = part.from;
+          each = λ k l at_l.
+              let e = part.placed k l at_l in
+              let p = e.2 in
+              let src : e.0.src.0 ≡ p.src = ap (λ (x : Edge). x.src.0) p.is in
+              let dst : e.0.dst.0 ≡ p.dst = ap (λ (x : Edge). x.dst.0) p.is in (
+                e.0,
+                e.1,
+                ap (λ (x : Edge). x.owner.0) p.is,
+                record {
+                  inter = ap (λ (x : Edge). x.inter) p.is;
+                  is_mode = ap (λ (x : Edge). x.mode) p.is;
+                  is_src = subst (λ n. StandsAt g n address m l.src) (sym src) (there g p.src address m l.src (p.at_src address at_owner));
+                  is_dst = subst (λ n. StandsAt g n address m l.dst) (sym dst) (there g p.dst address m l.dst (p.at_dst address at_owner));
+                },
+              );
         }
 
 -- the pb_types of a graph's instances have few modes each

@@ -1,5 +1,5 @@
 -- A list that is filled: what was put, and what is still to come.
-use Rattle.std.proofs.Common.{◌≡◌, ◌+◌, ◌-◌, ◌<◌, ◌≤◌, ℕ, suc, List, [], ◌∷◌, ◌++◌, map, length, get_or, drop, slice_get, Some, sym, ap, ◌∙◌, arith, append_assoc, drop-cons}
+use Rattle.std.proofs.Common.{◌≡◌, ◌+◌, ◌-◌, ◌<◌, ◌≤◌, ℕ, zero, suc, List, [], ◌∷◌, ◌++◌, map, length, get_or, drop, slice_get, Some, refl, sym, ap, ◌∙◌, arith, append_assoc, length-append, drop-cons}
 use Rattle.std.proofs.lemmas.List.{append-nil, drop_all}
 use Rattle.std.proofs.lemmas.Option.{slice_get_within, get_or_from_slice_get}
 use Rattle.vtr_base.specs.Lists.{up_from}
@@ -63,3 +63,16 @@ over_step n blocks block at =
 
 pub over_end : (n : ℕ) (blocks : List PbType) → length blocks ≤ n → pins_over n (drop n blocks) ≡ []
 over_end n blocks done = ap (λ bs. pins_over n bs) (drop_all n blocks done)
+
+-- what is there and what is to come are as many as what was there and all that is to be put
+pub fills_count : (old now to_come all : List PinAt) → Fills old now to_come all → length now + length to_come ≡ length old + length all
+fills_count old now to_come all fills = omega (arith, ap length fills.is, length-append now to_come, length-append old all)
+
+-- where there is no room for the next part, too many were to be put
+pub no_room_for : (old now to_come part rest all : List PinAt) → Fills old now to_come all → to_come ≡ part ++ rest → 1048576 < length now + length part →
+    1048576 < length old + length all
+no_room_for old now to_come part rest all fills e full = omega (arith, fills_count old now to_come all fills, ap length e, length-append part rest)
+
+pub length-bits : (pb port from k : ℕ) → length (map (pin_at pb port) (up_from from k)) ≡ k
+length-bits pb port from zero = refl
+length-bits pb port from (suc k) = ap suc (length-bits pb port (from + 1) k)

@@ -182,3 +182,31 @@ kid_pushed old rows more parent mode child n here kids kid tail all grew inside 
       address = last_address rows more (step_from parent mode child n) here below_it added reads refl;
       less = fewer_below old more under (behind ++ tail) all grown longer;
     }
+
+-- what is there and what is to come are as many as what was there and what is to be added
+pub grew_count : (old rows : List Step) (to_come all : List Address) → Grew old rows to_come all → length rows + length to_come ≡ length old + length all
+grew_count old rows to_come all grew =
+    omega (
+      arith,
+      length-addresses old,
+      length-addresses rows,
+      ap length grew.so_far,
+      length-append (addresses rows) to_come,
+      length-append (addresses old) all,
+    )
+
+-- where there is no room for one more row, too many were to be added
+pub no_room : (old rows : List Step) (kids : List PbType) (kid : PbType) (mode child n : ℕ) (here : Address) (tail all : List Address) →
+    Grew old rows (kids_at (drop child kids) mode child n here ++ tail) all → child < length kids → kid ≡ get_or kids child kid → n < kid.count →
+    1048575 ≤ length rows → 1048575 < length old + length all
+no_room old rows kids kid mode child n here tail all grew inside e counted full =
+    let step = step_to here mode child n in
+    let rest = below kid.kind step ++ kids_at (drop child kids) mode child (n + 1) here in
+    let opened : length (kids_at (drop child kids) mode child n here ++ tail) ≡ length (step ∷ rest) + length tail =
+    length-append (kids_at (drop child kids) mode child n here) tail ∙ ap (λ l. length l + length tail) (kid_step kids mode child n here kid inside e counted) in
+    omega (arith, grew_count old rows (kids_at (drop child kids) mode child n here ++ tail) all grew, opened)
+
+-- where there is no room for what stands below a row, too many were to be added
+pub no_room_below : (old more : List Step) (under to_come all : List Address) → Grew old more (under ++ to_come) all → 1048575 < length more + length under →
+    1048575 < length old + length all
+no_room_below old more under to_come all grew full = omega (arith, grew_count old more (under ++ to_come) all grew, length-append under to_come)

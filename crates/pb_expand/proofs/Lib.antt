@@ -1,3 +1,4 @@
+pub mod Told
 pub mod Lists
 pub mod RowLemmas
 pub mod Insides
@@ -8,7 +9,18 @@ pub mod Fills
 pub mod PinLemmas
 pub mod BlockList
 pub mod SetLemmas
+pub mod Firsts
+pub mod TypeLemmas
+pub mod FirstFaults
 pub mod Numbers
 pub mod Batch
 pub mod EdgeList
+pub mod PinsThere
+pub mod PinPlaces
+pub mod Excess
+pub mod ModeLists
+pub mod Counts
+pub mod Verdicts
+pub mod Parts
 pub mod Tying
+pub mod OneOwner

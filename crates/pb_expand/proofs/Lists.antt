@@ -89,3 +89,9 @@ place_says {X} p xs r x e only passes = rw e (by (nat_lt (position_or_len p xs) 
 -- what a read of a list of references gives
 pub now_at : {X : Type 0} (xs : List (Bor X)) (k : ℕ) (x : Bor X) → k < length xs → x ≡ get_or xs k x → slice_get (map (λ b. b.now) xs) k ≡ Some x.now
 now_at xs k x inside e = slice_get-map (λ (b : Bor _). b.now) xs k ∙ ap (option_map (λ (b : Bor _). b.now)) (slice_get_read xs (length xs) k x refl inside e)
+
+pub get_behind : {X : Type 0} (xs ys : List X) (k : ℕ) (x : X) → slice_get ys k ≡ Some x → slice_get (xs ++ ys) (length xs + k) ≡ Some x
+get_behind [] ys k x e = let same : 0 + k ≡ k = omega arith in ap (λ n. slice_get ys n) same ∙ e
+get_behind (y ∷ xs) ys k x e =
+    let next : length (y ∷ xs) + k ≡ suc (length xs + k) = omega arith in
+    ap (λ n. slice_get (y ∷ (xs ++ ys)) n) next ∙ get_behind xs ys k x e

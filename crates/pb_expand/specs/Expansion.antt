@@ -1,5 +1,5 @@
 -- A graph is the expansion of its block type.
-use Rattle.std.specs.Prelude.{◌≡◌, ◌≤◌, ◌<◌, ◌⊎◌, ◌↔◌, ℕ, Option, Some, None, length, slice_get}
+use Rattle.std.specs.Prelude.{◌≡◌, ◌≤◌, ◌<◌, ◌+◌, ◌⊎◌, ◌↔◌, ℕ, List, Option, Some, None, length, slice_get}
 use Rattle.vtr_base.specs.Lists.{Has}
 use Rattle.arch_types.specs.declared.block.PbType.{PbType}
 use Rattle.arch_types.specs.declared.block.Port.{Port}
@@ -8,8 +8,9 @@ use Rattle.arch_types.specs.Tree.{modes_of}
 use Rattle.arch_types.specs.Address.{Address, at, step_to, instances_of}
 use Rattle.arch_types.specs.Numbering.{IsNumbering}
 use Rattle.mode_edges.specs.declared.pin.LocalPin.{LocalPin}
+use Rattle.mode_edges.specs.declared.pin.LocalEdge.{LocalEdge}
 use Rattle.mode_edges.specs.declared.pin.ChildAt.{ChildAt}
-use Rattle.mode_edges.specs.Edges.{IsEdge}
+use Rattle.mode_edges.specs.Edges.{IsEdge, AreEdges}
 use Rattle.pb_expand.specs.declared.number.PinAt.{PinAt}
 use Rattle.pb_expand.specs.declared.number.Edge.{Edge}
 use Rattle.pb_expand.specs.Graph.{Graph, ports_at, pin_at, pins_of}
@@ -45,14 +46,32 @@ IsNotAfter e f =
     (e.owner.0 < f.owner.0)
     ⊎ ((e.owner.0 ≡ f.owner.0) × ((e.mode < f.mode) ⊎ ((e.mode ≡ f.mode) × (e.inter ≤ f.inter))))
 
+-- the edge is that local edge, for a block at an address and one of its modes
+pub record IsLocal (g : Graph) (e : Edge) (address : Address) (mode : ℕ) (l : LocalEdge) : Type 0 where
+  pub inter : e.inter ≡ l.inter
+  pub is_mode : e.mode ≡ mode
+  pub is_src : StandsAt g e.src.0 address mode l.src
+  pub is_dst : StandsAt g e.dst.0 address mode l.dst
+
+-- the edges of a mode of an instance stand together from place `from` on, in the order of a list of
+-- the mode's edges
+pub record StandTogether (g : Graph) (owner : ℕ) (address : Address) (m : ℕ) (block : PbType) (mode : Mode) : Type 0 where
+  pub local : List LocalEdge
+  pub are : AreEdges block mode local
+  pub from : ℕ
+  pub each : (k : ℕ) (l : LocalEdge) → slice_get local k ≡ Some l → (e : Edge) × (slice_get g.edges (from + k) ≡ Some e) × (e.owner.0 ≡ owner) × IsLocal g e address m l
+
 -- exactly the edges of the block type, each pair once in a mode of an instance, in the order of
--- their owners, and for one owner in the order of its modes and their interconnects
+-- their owners, for one owner in the order of its modes, and for one mode in the order of its edges:
+-- that of their interconnects, and of each of these the order in which its input names their sources
 pub record HasEdges (g : Graph) : Type 0 where
   pub each : (e : Edge) → Has g.edges e → IsEdgeOf g e
   pub all : (e : Edge) → IsEdgeOf g e → Has g.edges e
   pub once : (i j : ℕ) (e f : Edge) → slice_get g.edges i ≡ Some e → slice_get g.edges j ≡ Some f →
       e.owner ≡ f.owner → e.mode ≡ f.mode → e.src ≡ f.src → e.dst ≡ f.dst → i ≡ j
   pub ordered : (i j : ℕ) (e f : Edge) → i < j → slice_get g.edges i ≡ Some e → slice_get g.edges j ≡ Some f → IsNotAfter e f
+  pub together : (owner : ℕ) (address : Address) (block : PbType) (m : ℕ) (mode : Mode) → slice_get g.instances owner ≡ Some address → at g.root address ≡ Some block →
+      slice_get (modes_of block.kind) m ≡ Some mode → StandTogether g owner address m block mode
 
 -- there is such a pin: the instance has that port, and the port that bit
 pub record IsPin (g : Graph) (pb port bit : ℕ) : Type 0 where

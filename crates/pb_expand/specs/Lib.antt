@@ -1,6 +1,9 @@
 pub mod Graph
 pub mod Expansion
+pub mod Types
+pub mod Refusals
 pub mod Rows
 pub mod Ends
 pub mod Making
 pub mod Tied
+pub mod OneOwner

@@ -1,17 +1,20 @@
 -- What the parts of a graph are while it is made.
-use Rattle.std.specs.Prelude.{◌≡◌, ◌≤◌, ◌<◌, ◌+◌, ◌^◌, ◌⊎◌, ℕ, List, [], ◌∷◌, ◌++◌, Some, length, slice_get}
+use Rattle.std.specs.Prelude.{◌≡◌, ◌≤◌, ◌<◌, ◌+◌, ◌^◌, ◌⊎◌, ℕ, List, [], ◌∷◌, ◌++◌, Option, Some, None, Vec, length, slice_get}
 use Rattle.vtr_base.specs.Lists.{Has}
 use Rattle.arch_types.specs.declared.block.PbType.{PbType}
 use Rattle.arch_types.specs.declared.block.Mode.{Mode}
 use Rattle.arch_types.specs.Tree.{modes_of}
-use Rattle.arch_types.specs.Address.{Address, at}
+use Rattle.arch_types.specs.Address.{Address, at, child_at}
 use Rattle.mode_edges.specs.declared.pin.LocalPin.{LocalPin}
 use Rattle.mode_edges.specs.declared.pin.LocalEdge.{LocalEdge}
-use Rattle.mode_edges.specs.Edges.{IsEdge}
+use Rattle.mode_edges.specs.declared.pin.ChildAt.{ChildAt}
+use Rattle.mode_edges.specs.Edges.{IsEdge, AreEdges}
+use Rattle.mode_edges.specs.Faults.{IsSound}
 use Rattle.pb_expand.specs.declared.number.Step.{Step}
 use Rattle.pb_expand.specs.declared.number.PinAt.{PinAt}
 use Rattle.pb_expand.specs.declared.number.Edge.{Edge}
-use Rattle.pb_expand.specs.Graph.{pin_ix, pb_ix, pin_at, pins_of_ports}
+use Rattle.pb_expand.specs.declared.number.PbIx.{PbIx}
+use Rattle.pb_expand.specs.Graph.{pin_ix, pb_ix, pin_at, pins_of_ports, step_from, hop_of}
 use Rattle.pb_expand.specs.Expansion.{owner_address, IsNotAfter}
 use Rattle.pb_expand.specs.Rows.{addresses, IsTree}
 
@@ -28,6 +31,25 @@ pub record AreBlocks (root : PbType) (instances : List Address) (blocks : List P
 abbrev pub pins_over : ℕ → List PbType → List PinAt
 pins_over n [] = []
 pins_over n (block ∷ blocks) = pins_of_ports n 0 block.ports ++ pins_over (n + 1) blocks
+
+-- the row of an instance says which child of its parent's pb_type it is
+pub record AreChildren (rows : List Step) (blocks : List PbType) : Type 0 where
+  pub each : (k : ℕ) (s : Step) (parent : PbType) → slice_get rows k ≡ Some s → slice_get blocks s.parent.0 ≡ Some parent →
+      slice_get blocks (k + 1) ≡ child_at parent (hop_of s)
+
+-- for each instance one of the same pb_type, which stands for itself
+pub record StandFor (blocks : List PbType) (firsts : List PbIx) : Type 0 where
+  pub before : (n : ℕ) (f : PbIx) → slice_get firsts n ≡ Some f → f.0 ≤ n
+  pub itself : (n : ℕ) (f : PbIx) → slice_get firsts n ≡ Some f → slice_get firsts f.0 ≡ Some f
+  pub same : (n : ℕ) (f : PbIx) → slice_get firsts n ≡ Some f → slice_get blocks f.0 ≡ slice_get blocks n
+
+-- f stands for an instance that is the same child, as instance 0, of the one that stands for the parent
+pub record IsLike (rows : List Step) (firsts : List PbIx) (row : Step) (f : PbIx) : Type 0 where
+  pub parent : PbIx
+  pub is_parent : slice_get firsts row.parent.0 ≡ Some parent
+  pub found : ℕ
+  pub is_found : slice_get rows found ≡ Some (step_from parent.0 row.mode row.child 0)
+  pub is_first : slice_get firsts (found + 1) ≡ Some f
 
 -- no element has two places
 abbrev pub AreOnce : {X : Type 0} → List X → Type 0
@@ -83,6 +105,14 @@ pub record IsMade (blocks : List PbType) (instances : List Address) (pins : List
 abbrev pub IsBefore : ℕ → ℕ → Edge → Type 0
 IsBefore n mode e = (e.owner.0 < n) ⊎ ((e.owner.0 ≡ n) × (e.mode < mode))
 
+-- the edges of a mode of an instance stand together from place `from` on, in the order of a list of
+-- the mode's edges
+pub record IsPart (instances : List Address) (pins : List PinAt) (edges : List Edge) (owner m : ℕ) (block : PbType) (mode : Mode) : Type 0 where
+  pub local : List LocalEdge
+  pub are : AreEdges block mode local
+  pub from : ℕ
+  pub placed : (k : ℕ) (l : LocalEdge) → slice_get local k ≡ Some l → (e : Edge) × (slice_get edges (from + k) ≡ Some e) × IsPlaced instances pins owner m l e
+
 -- exactly the edges before a mode of an instance, in their order
 pub record AreBefore (blocks : List PbType) (instances : List Address) (pins : List PinAt) (n mode : ℕ) (edges : List Edge) : Type 0 where
   pub each : (e : Edge) → Has edges e → IsMade blocks instances pins e × IsBefore n mode e
@@ -90,3 +120,51 @@ pub record AreBefore (blocks : List PbType) (instances : List Address) (pins : L
   pub once : (i j : ℕ) (e f : Edge) → slice_get edges i ≡ Some e → slice_get edges j ≡ Some f →
       e.owner ≡ f.owner → e.mode ≡ f.mode → e.src ≡ f.src → e.dst ≡ f.dst → i ≡ j
   pub ordered : (i j : ℕ) (e f : Edge) → i < j → slice_get edges i ≡ Some e → slice_get edges j ≡ Some f → IsNotAfter e f
+  pub parts : (o m : ℕ) (block : PbType) (is : Mode) → (o < n) ⊎ ((o ≡ n) × (m < mode)) → slice_get blocks o ≡ Some block → slice_get (modes_of block.kind) m ≡ Some is →
+      IsPart instances pins edges o m block is
+
+-- the instance of number pb has a pin of a mode of instance `owner`, as a row says
+abbrev pub IsOwner : List Step → ℕ → ℕ → Option ChildAt → ℕ → Type 0
+IsOwner rows owner mode None pb = pb ≡ owner
+IsOwner rows owner mode (Some c) pb = (k : ℕ) × (slice_get rows k ≡ Some (step_from owner mode c.child c.instance)) × (pb ≡ k + 1)
+
+-- a pin of a mode of an instance is among the instances and the pins
+pub record HasPlace (rows : List Step) (pins : List PinAt) (owner mode : ℕ) (pin : LocalPin) : Type 0 where
+  pub has_owner : (pb : ℕ) × IsOwner rows owner mode pin.owner pb
+  pub has_pin : (pb : ℕ) → IsOwner rows owner mode pin.owner pb → (n : ℕ) × (slice_get pins n ≡ Some (pin_at pb pin.port pin.bit))
+
+-- the pins of these local edges are there
+pub record HavePlaces (rows : List Step) (pins : List PinAt) (owner mode : ℕ) (local : List LocalEdge) : Type 0 where
+  pub src : (k : ℕ) (l : LocalEdge) → slice_get local k ≡ Some l → HasPlace rows pins owner mode l.src
+  pub dst : (k : ℕ) (l : LocalEdge) → slice_get local k ≡ Some l → HasPlace rows pins owner mode l.dst
+
+-- the edges of each mode of a pb_type
+pub record AreModeEdges {A : Type 0} (block : PbType) (lists : List (Vec LocalEdge A)) : Type 0 where
+  pub all : length lists ≡ length (modes_of block.kind)
+  pub each : (m : ℕ) (mode : Mode) (local : Vec LocalEdge A) → slice_get (modes_of block.kind) m ≡ Some mode → slice_get lists m ≡ Some local →
+      AreEdges block mode local.items
+
+-- the edges of the modes of the instance of number n
+abbrev pub AreModeEdgesOf : {A : Type 0} → List PbType → ℕ → List (Vec LocalEdge A) → Type 0
+AreModeEdgesOf blocks n lists = (block : PbType) → slice_get blocks n ≡ Some block → AreModeEdges block lists
+
+-- the edges of the modes of each instance that stands for itself
+abbrev pub HaveModeEdges : {A : Type 0} → List PbType → List PbIx → List (Vec (Vec LocalEdge A) A) → Type 0
+HaveModeEdges {A} blocks firsts lists = (n : ℕ) (made : Vec (Vec LocalEdge A) A) → slice_get firsts n ≡ Some (pb_ix n) → slice_get lists n ≡ Some made → AreModeEdgesOf blocks n made.items
+
+-- what is known of the instances and the pins before the edges are made
+pub record AreParts (blocks : List PbType) (rows : List Step) (pins : List PinAt) : Type 0 where
+  pub numbered : AreNumbered rows pins
+  pub short : AreShort blocks
+  pub all : length blocks ≡ 1 + length rows
+  pub all_addresses : length blocks ≡ length (addresses rows)
+  pub sound : (n m : ℕ) (block : PbType) (mode : Mode) → slice_get blocks n ≡ Some block → slice_get (modes_of block.kind) m ≡ Some mode → IsSound block mode
+  pub places : (n m : ℕ) (block : PbType) (mode : Mode) (local : List LocalEdge) → slice_get blocks n ≡ Some block → slice_get (modes_of block.kind) m ≡ Some mode →
+      AreEdges block mode local → HavePlaces rows pins n m local
+
+-- more edges than `most` can be listed, each once
+pub record AreMore (blocks : List PbType) (instances : List Address) (pins : List PinAt) (most : ℕ) : Type 0 where
+  pub edges : List Edge
+  pub each : (e : Edge) → Has edges e → IsMade blocks instances pins e
+  pub once : (i j : ℕ) (e : Edge) → slice_get edges i ≡ Some e → slice_get edges j ≡ Some e → i ≡ j
+  pub more : most < length edges

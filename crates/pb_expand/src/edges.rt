@@ -1,56 +1,144 @@
-ghost use Rattle.std.specs.Prelude.{◌≡◌, ◌≤◌, ◌<◌, ◌+◌, ℕ, Some, IfOk, OnOk, IfSome, map, length, slice_get};
+ghost use Rattle.std.specs.Prelude.{◌≡◌, ◌≤◌, ◌<◌, ◌+◌, ℕ, Some, IfOk, OnOk, IsErrOf, map, length, slice_get};
 ghost use Rattle.arch_types.specs.Address.{Address};
+ghost use Rattle.mode_edges.specs.Edges.{AreEdges, HasMoreEdges};
+ghost use Rattle.mode_edges.specs.Faults.{IsSound};
+ghost use Rattle.pb_expand.specs.Graph.{pin_at};
 ghost use Rattle.pb_expand.specs.Rows.{addresses, IsTree};
-ghost use Rattle.pb_expand.specs.Expansion.{owner_address};
-ghost use Rattle.pb_expand.specs.Making.{AreNumbered, AreBefore, AddsPlaced, AreShort, Stands};
+ghost use Rattle.pb_expand.specs.Making.{AreBefore, AddsPlaced, Stands, StandFor, AreParts, AreMore, HaveModeEdges, AreModeEdgesOf, HavePlaces, HasPlace, IsOwner};
+ghost use Rattle.pb_expand.specs.declared.error.SizeError.{SizeError};
 
+use crate::error::SizeError;
 use crate::graph::{modes_in, place_of_pin, place_of_step};
 use crate::places::Places;
-use crate::{Edge, ExpandError, PbIx, PinAt, PinIx, Step};
-use arch_types::PbType;
+use crate::{Edge, PbIx, PinAt, PinIx, Step};
+use arch_types::{Mode, PbType};
 use indexmap::IndexSet;
 use mode_edges::{ChildAt, LocalEdge, LocalPin, edges_of_mode};
-use std::alloc::Global;
+use std::alloc::{AllocError, Global};
 
 const MOST_EDGES: usize = 4194304;
 
 /// The edges of all instances in all their modes.
-pub(crate) fn edges_of(alloc: Global, places: &Places) -> Result<Vec<Edge>, ExpandError>
-    requires numbered { AreNumbered places.now.rows.keys places.now.pins.keys }
-    requires short { AreShort (map (λ b. b.now) places.now.blocks.items) }
-    requires all { length places.now.blocks.items ≡ length (addresses places.now.rows.keys) }
-    requires few { length places.now.blocks.items ≤ 1048576 }
+pub(crate) fn edges_of(alloc: Global, places: &Places) -> Result<Vec<Edge>, SizeError>
+    requires parts { AreParts (map (λ b. b.now) places.now.blocks.items) places.now.rows.keys places.now.pins.keys }
+    requires firsts { StandFor (map (λ b. b.now) places.now.blocks.items) places.now.firsts.items }
+    requires all_firsts { length places.now.firsts.items ≡ length places.now.blocks.items }
     ensures edges { IfOk result (λ es. AreBefore (map (λ b. b.now) places.now.blocks.items) (addresses places.now.rows.keys) places.now.pins.keys (length places.now.blocks.items) 0 es.items) }
     ensures few { IfOk result (λ es. length es.items ≤ 4194304) }
+    ensures many { IsErrOf result SizeError.TooMany → AreMore (map (λ b. b.now) places.now.blocks.items) (addresses places.now.rows.keys) places.now.pins.keys 4194304 }
 {
     let mut edges = Vec::new(alloc);
+    let mut lists = Vec::new(alloc);
     for owner in 0..places.blocks.len() {
-        push_modes(alloc, &mut edges, places, PbIx(owner as u32))?;
+        let made = push_owner(
+            alloc,
+            &mut edges,
+            places,
+            lists.as_slice(),
+            PbIx(owner as u32),
+        )?;
+        lists.push(made)?;
     }
     Ok(edges)
 }
 
-/// Adds the edges of an instance in all its modes.
-fn push_modes(
+/// Adds the edges of an instance in all its modes. The edges of a mode are found once for all
+/// instances of a pb_type: at the first one, which is given them back.
+fn push_owner(
+    alloc: Global,
+    edges: &mut Vec<Edge>,
+    places: &Places,
+    lists: &[Vec<Vec<LocalEdge>>],
+    owner: PbIx,
+) -> Result<Vec<Vec<LocalEdge>>, SizeError>
+    requires parts { AreParts (map (λ b. b.now) places.now.blocks.items) places.now.rows.keys places.now.pins.keys }
+    requires firsts { StandFor (map (λ b. b.now) places.now.blocks.items) places.now.firsts.items }
+    requires all_firsts { length places.now.firsts.items ≡ length places.now.blocks.items }
+    requires there { owner.0 < length places.now.blocks.items }
+    requires before { AreBefore (map (λ b. b.now) places.now.blocks.items) (addresses places.now.rows.keys) places.now.pins.keys owner.0 0 edges.old.items }
+    requires few { length edges.old.items ≤ 4194304 }
+    requires lists { HaveModeEdges (map (λ b. b.now) places.now.blocks.items) places.now.firsts.items lists.now }
+    requires all_lists { length lists.now ≡ owner.0 }
+    ensures edges { OnOk result (AreBefore (map (λ b. b.now) places.now.blocks.items) (addresses places.now.rows.keys) places.now.pins.keys (owner.0 + 1) 0 edges.new.items) }
+    ensures few { OnOk result (length edges.new.items ≤ 4194304) }
+    ensures made { IfOk result (λ made. slice_get places.now.firsts.items owner.0 ≡ Some owner → AreModeEdgesOf (map (λ b. b.now) places.now.blocks.items) owner.0 made.items) }
+    ensures many { IsErrOf result SizeError.TooMany → AreMore (map (λ b. b.now) places.now.blocks.items) (addresses places.now.rows.keys) places.now.pins.keys 4194304 }
+{
+    let first = places.firsts[owner.0 as usize];
+    if first.0 == owner.0 {
+        return push_new(alloc, edges, places, owner);
+    }
+    push_known(edges, places, owner, lists[first.0 as usize].as_slice())?;
+    Ok(Vec::new(alloc))
+}
+
+/// Adds the edges of an instance in all its modes, and gives back the edges of each mode.
+fn push_new(
     alloc: Global,
     edges: &mut Vec<Edge>,
     places: &Places,
     owner: PbIx,
-) -> Result<(), ExpandError>
-    requires numbered { AreNumbered places.now.rows.keys places.now.pins.keys }
-    requires short { AreShort (map (λ b. b.now) places.now.blocks.items) }
-    requires all { length places.now.blocks.items ≡ length (addresses places.now.rows.keys) }
+) -> Result<Vec<Vec<LocalEdge>>, SizeError>
+    requires parts { AreParts (map (λ b. b.now) places.now.blocks.items) places.now.rows.keys places.now.pins.keys }
     requires there { owner.0 < length places.now.blocks.items }
     requires before { AreBefore (map (λ b. b.now) places.now.blocks.items) (addresses places.now.rows.keys) places.now.pins.keys owner.0 0 edges.old.items }
+    requires few { length edges.old.items ≤ 4194304 }
     ensures edges { OnOk result (AreBefore (map (λ b. b.now) places.now.blocks.items) (addresses places.now.rows.keys) places.now.pins.keys (owner.0 + 1) 0 edges.new.items) }
-    ensures few { OnOk result (length edges.old.items ≤ 4194304 → length edges.new.items ≤ 4194304) }
+    ensures few { OnOk result (length edges.new.items ≤ 4194304) }
+    ensures made { IfOk result (λ made. AreModeEdgesOf (map (λ b. b.now) places.now.blocks.items) owner.0 made.items) }
+    ensures many { IsErrOf result SizeError.TooMany → AreMore (map (λ b. b.now) places.now.blocks.items) (addresses places.now.rows.keys) places.now.pins.keys 4194304 }
 {
     let block: &PbType = places.blocks[owner.0 as usize];
+    let mut lists = Vec::new(alloc);
     for (mode, is) in modes_in(block).iter().enumerate() {
-        let local = edges_of_mode(alloc, block, is)?;
+        let local = local_edges(alloc, block, is, MOST_EDGES - edges.len())?;
+        push_local(edges, places, owner, mode as u32, local.as_slice())?;
+        lists.push(local)?;
+    }
+    Ok(lists)
+}
+
+/// Adds the edges of an instance in all its modes, of which the edges of each are known.
+fn push_known(
+    edges: &mut Vec<Edge>,
+    places: &Places,
+    owner: PbIx,
+    lists: &[Vec<LocalEdge>],
+) -> Result<(), SizeError>
+    requires parts { AreParts (map (λ b. b.now) places.now.blocks.items) places.now.rows.keys places.now.pins.keys }
+    requires there { owner.0 < length places.now.blocks.items }
+    requires before { AreBefore (map (λ b. b.now) places.now.blocks.items) (addresses places.now.rows.keys) places.now.pins.keys owner.0 0 edges.old.items }
+    requires few { length edges.old.items ≤ 4194304 }
+    requires lists { AreModeEdgesOf (map (λ b. b.now) places.now.blocks.items) owner.0 lists.now }
+    ensures edges { OnOk result (AreBefore (map (λ b. b.now) places.now.blocks.items) (addresses places.now.rows.keys) places.now.pins.keys (owner.0 + 1) 0 edges.new.items) }
+    ensures few { OnOk result (length edges.new.items ≤ 4194304) }
+    ensures many { IsErrOf result SizeError.TooMany → AreMore (map (λ b. b.now) places.now.blocks.items) (addresses places.now.rows.keys) places.now.pins.keys 4194304 }
+{
+    for (mode, local) in lists.iter().enumerate() {
+        if local.len() > MOST_EDGES - edges.len() {
+            return Err(SizeError::TooMany);
+        }
         push_local(edges, places, owner, mode as u32, local.as_slice())?;
     }
     Ok(())
+}
+
+/// The edges of a mode of a pb_type, where there are at most `most`.
+fn local_edges(
+    alloc: Global,
+    block: &PbType,
+    mode: &Mode,
+    most: usize,
+) -> Result<Vec<LocalEdge>, SizeError>
+    requires { IsSound block.now mode.now }
+    ensures edges { IfOk result (λ edges. AreEdges block.now mode.now edges.items) }
+    ensures few { IfOk result (λ edges. length edges.items ≤ most) }
+    ensures many { IsErrOf result SizeError.TooMany → HasMoreEdges block.now mode.now most }
+{
+    match edges_of_mode(alloc, block, mode, most)? {
+        Some(edges) => Ok(edges),
+        None => Err(SizeError::TooMany),
+    }
 }
 
 /// Adds the edges of a mode of an instance.
@@ -60,23 +148,16 @@ fn push_local(
     owner: PbIx,
     mode: u32,
     local: &[LocalEdge],
-) -> Result<(), ExpandError>
+) -> Result<(), AllocError>
     requires tree { IsTree places.now.rows.keys }
     requires few_rows { length places.now.rows.keys ≤ 1048575 }
     requires few_pins { length places.now.pins.keys ≤ 1048576 }
-    ensures added { OnOk result (AddsPlaced (addresses places.now.rows.keys) places.now.pins.keys owner.0 mode local.now edges.old.items edges.new.items) }
-    ensures few { OnOk result (length edges.old.items ≤ 4194304 → length edges.new.items ≤ 4194304) }
+    requires places { HavePlaces places.now.rows.keys places.now.pins.keys owner.0 mode local.now }
+    ensures { OnOk result (AddsPlaced (addresses places.now.rows.keys) places.now.pins.keys owner.0 mode local.now edges.old.items edges.new.items) }
 {
     for edge in local {
-        let Some(src) = place_of(&places.rows, &places.pins, owner, mode, edge.src) else {
-            return Err(ExpandError::NotBuilt);
-        };
-        let Some(dst) = place_of(&places.rows, &places.pins, owner, mode, edge.dst) else {
-            return Err(ExpandError::NotBuilt);
-        };
-        if edges.len() >= MOST_EDGES {
-            return Err(ExpandError::TooMany);
-        }
+        let src = place_of(&places.rows, &places.pins, owner, mode, edge.src);
+        let dst = place_of(&places.rows, &places.pins, owner, mode, edge.dst);
         edges.push(Edge {
             src,
             dst,
@@ -95,30 +176,34 @@ fn place_of(
     owner: PbIx,
     mode: u32,
     pin: LocalPin,
-) -> Option<PinIx>
+) -> PinIx
     requires tree { IsTree rows.now.keys }
     requires few_rows { length rows.now.keys ≤ 1048575 }
     requires few_pins { length pins.now.keys ≤ 1048576 }
-    ensures { IfSome result (λ n. (a : Address) → slice_get (addresses rows.now.keys) owner.0 ≡ Some a → Stands (addresses rows.now.keys) pins.now.keys n.0 a mode pin) }
+    requires there { HasPlace rows.now.keys pins.now.keys owner.0 mode pin }
+    ensures { (a : Address) → slice_get (addresses rows.now.keys) owner.0 ≡ Some a → Stands (addresses rows.now.keys) pins.now.keys result.0 a mode pin }
 {
-    let pb = owner_of(rows, owner, mode, pin.owner)?;
+    let pb = owner_of(rows, owner, mode, pin.owner);
     let wanted = PinAt {
         pb,
         port: pin.port,
         bit: pin.bit,
     };
-    let place = place_of_pin(pins, wanted)?;
-    Some(PinIx(place as u32))
+    let Some(place) = place_of_pin(pins, wanted) else {
+        unreachable!()
+    };
+    PinIx(place as u32)
 }
 
 /// The number of the instance that has a pin of a mode of an instance.
-fn owner_of(rows: &IndexSet<Step>, owner: PbIx, mode: u32, child: Option<ChildAt>) -> Option<PbIx>
+fn owner_of(rows: &IndexSet<Step>, owner: PbIx, mode: u32, child: Option<ChildAt>) -> PbIx
     requires tree { IsTree rows.now.keys }
     requires few { length rows.now.keys ≤ 1048575 }
-    ensures { IfSome result (λ n. (a : Address) → slice_get (addresses rows.now.keys) owner.0 ≡ Some a → slice_get (addresses rows.now.keys) n.0 ≡ Some (owner_address a mode child)) }
+    requires there { (pb : ℕ) × IsOwner rows.now.keys owner.0 mode child pb }
+    ensures { IsOwner rows.now.keys owner.0 mode child result.0 }
 {
     let Some(child) = child else {
-        return Some(owner);
+        return owner;
     };
     let step = Step {
         parent: owner,
@@ -126,6 +211,8 @@ fn owner_of(rows: &IndexSet<Step>, owner: PbIx, mode: u32, child: Option<ChildAt
         child: child.child,
         instance: child.instance,
     };
-    let row = place_of_step(rows, step)?;
-    Some(PbIx(row as u32 + 1))
+    let Some(row) = place_of_step(rows, step) else {
+        unreachable!()
+    };
+    PbIx(row as u32 + 1)
 }

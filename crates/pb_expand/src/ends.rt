@@ -2,16 +2,16 @@ ghost use Rattle.std.specs.Prelude.{◌≡◌, ◌≤◌, ℕ, ◌++◌, ◌∷�
 ghost use Rattle.pb_expand.specs.Ends.{AreEnds, listed, same_end, end_at};
 
 use crate::number::End;
-use crate::{Edge, EdgeIx, ExpandError};
+use crate::{Edge, EdgeIx};
 use sqlite_items::Items;
-use std::alloc::Global;
+use std::alloc::{AllocError, Global};
 use std::collections::HashMap;
 
 /// The edges by the pin into which they lead and their mode.
 pub(crate) fn ends_of(
     alloc: Global,
     edges: &[Edge],
-) -> Result<HashMap<End, Items<EdgeIx>>, ExpandError>
+) -> Result<HashMap<End, Items<EdgeIx>>, AllocError>
     requires { length edges.now ≤ 4194304 }
     ensures { IfOk result (λ into. AreEnds edges.now into) }
 {
@@ -32,7 +32,7 @@ fn push_end(
     into: &mut HashMap<End, Items<EdgeIx>>,
     end: End,
     edge: EdgeIx,
-) -> Result<(), ExpandError>
+) -> Result<(), AllocError>
     ensures { OnOk result ((pin mode : ℕ) → listed into.new pin mode ≡ listed into.old pin mode ++ (if same_end end (end_at pin mode) then edge ∷ [] else [])) }
 {
     match into.get_mut(&end) {

@@ -1,18 +1,26 @@
 ghost use Rattle.std.specs.Prelude.{◌≡◌};
 ghost use Rattle.pb_expand.specs.declared.error.ExpandError.TheVariants.{OutOfMemory};
+ghost use Rattle.pb_expand.specs.declared.error.SizeError.TheVariants as size;
+ghost use Rattle.pb_expand.specs.Refusals.{size_told, edge_told};
 
 use mode_edges::EdgeError;
 use std::alloc::{AllocError, AllocFailed};
 use thiserror::Error;
+use vtr_base::Text;
 
-/// Why a block type wasn't expanded.
-#[derive(Clone, Copy, Debug, PartialEq, Eq, Drop, Error)]
+/// Why a block type wasn't expanded. An interconnect is told by its name.
+#[derive(Debug, Drop, Error)]
 pub enum ExpandError {
-    /// A mode has interconnects whose edges can't be made yet.
-    #[error("the edges of a mode can't be made yet")]
-    NotBuilt,
-    /// There are more than 2^20 instances, 2^20 pins or 2^22 edges, or a list of modes, children
-    /// or ports of 2^32 or more.
+    /// A word of an interconnect names no pin, or a pin on the wrong side.
+    #[error("an interconnect names no pin, or a pin on the wrong side")]
+    NoSuchPin { inter: Text },
+    /// A `direct` names lists of two lengths.
+    #[error("a direct interconnect names lists of two lengths")]
+    Width { inter: Text },
+    /// A word of a `mux` names more than one pin, or its output isn't one pin.
+    #[error("a mux names more than one pin in a word, or not one output pin")]
+    WideMux { inter: Text },
+    /// There are more than 2^20 instances, 2^20 pins or 2^22 edges.
     #[error("the block type is too large")]
     TooMany,
     #[error("out of memory")]
@@ -27,19 +35,52 @@ impl From<AllocError> for ExpandError {
     }
 }
 
-impl<T: Drop> From<AllocFailed<T>> for ExpandError {
-    ghost from_gives = { λ _ e. e ≡ OutOfMemory };
+impl From<EdgeError> for ExpandError {
+    ghost from_gives = { λ e told. told ≡ edge_told e };
 
-    fn from(_e: AllocFailed<T>) -> ExpandError {
-        ExpandError::OutOfMemory
+    fn from(e: EdgeError) -> ExpandError {
+        match e {
+            EdgeError::NoSuchPin { inter } => ExpandError::NoSuchPin { inter },
+            EdgeError::Width { inter } => ExpandError::Width { inter },
+            EdgeError::WideMux { inter } => ExpandError::WideMux { inter },
+            EdgeError::OutOfMemory => ExpandError::OutOfMemory,
+        }
     }
 }
 
-impl From<EdgeError> for ExpandError {
-    fn from(e: EdgeError) -> ExpandError {
+impl From<SizeError> for ExpandError {
+    ghost from_gives = { λ e told. told ≡ size_told e };
+
+    fn from(e: SizeError) -> ExpandError {
         match e {
-            EdgeError::NotBuilt => ExpandError::NotBuilt,
-            EdgeError::OutOfMemory => ExpandError::OutOfMemory,
+            SizeError::TooMany => ExpandError::TooMany,
+            SizeError::OutOfMemory => ExpandError::OutOfMemory,
         }
+    }
+}
+
+/// Why the instances, pins or edges of a block type were not made.
+#[derive(Clone, Copy, Debug, PartialEq, Eq, Drop, Error)]
+pub(crate) enum SizeError {
+    /// There are more of them than may be.
+    #[error("the block type is too large")]
+    TooMany,
+    #[error("out of memory")]
+    OutOfMemory,
+}
+
+impl From<AllocError> for SizeError {
+    ghost from_gives = { λ _ e. e ≡ size.OutOfMemory };
+
+    fn from(_e: AllocError) -> SizeError {
+        SizeError::OutOfMemory
+    }
+}
+
+impl<T: Drop> From<AllocFailed<T>> for SizeError {
+    ghost from_gives = { λ _ e. e ≡ size.OutOfMemory };
+
+    fn from(_e: AllocFailed<T>) -> SizeError {
+        SizeError::OutOfMemory
     }
 }

@@ -1,14 +1,19 @@
-ghost use Rattle.std.specs.Prelude.{◌≡◌, ◌<◌, ◌^◌, ◌↔◌, ℕ, Some, IsNone, IsSome, IfSome, IfOk, MatchOption, length, slice_get};
+ghost use Rattle.std.specs.Prelude.{◌≡◌, ◌<◌, ◌^◌, ◌↔◌, ℕ, Some, IsNone, IsSome, IfSome, IfOk, IfErr, MatchOption, length, slice_get};
 ghost use Rattle.std.specs.Option.{option_map};
 ghost use Rattle.arch_types.specs.Tree.{modes_of, name_of_mode};
 ghost use Rattle.arch_types.specs.Address.{child_at};
 ghost use Rattle.pb_expand.specs.Graph.{LeadsTo, block_at, mode_at, kind_of, into_from, pin_at, step_from, hop_of};
 ghost use Rattle.pb_expand.specs.Ends.{listed};
 ghost use Rattle.pb_expand.specs.Expansion.{IsExpansion, IsPin};
+ghost use Rattle.pb_expand.specs.OneOwner.{HasOneOwner};
+ghost use Rattle.pb_expand.specs.Types.{modes_in_tree};
+ghost use Rattle.pb_expand.specs.Refusals.{AreSound, IsTooLarge, IsRefusal};
+ghost use Rattle.arch_types.specs.declared.block.PbType.{PbType};
 
 use crate::copy::copy_block;
 use crate::edges::edges_of;
 use crate::ends::ends_of;
+use crate::faults::check_tree;
 use crate::number::End;
 use crate::places::places_of;
 use crate::{Edge, EdgeIx, ExpandError, PbIx, PbKind, PinAt, PinIx, Step};
@@ -53,6 +58,13 @@ impl PbGraph {
     /// What is known of every graph.
     pub fn law(&self)
         ensures { IsExpansion self.now }
+    {
+        let _ = &self.block;
+    }
+
+    /// The edges into a pin are all of one instance, for callers' proofs. It does nothing.
+    pub fn one_owner(&self)
+        ensures { HasOneOwner self.now }
     {
         let _ = &self.block;
     }
@@ -222,13 +234,18 @@ impl PbGraph {
     }
 }
 
-/// A block type of an architecture as a graph.
+/// A block type of an architecture as a graph. A faulty interconnect is told before a block type
+/// that is too large, and the first of several.
 pub fn expand(alloc: Global, arch: &Arch, block: u32) -> Result<PbGraph, ExpandError>
     requires { block < length arch.now.blocks }
     ensures block { IfOk result (λ g. g.block ≡ block) }
     ensures root { IfOk result (λ g. slice_get arch.now.blocks block ≡ Some g.root) }
+    ensures sound { IfOk result (λ g. AreSound (modes_in_tree g.root)) }
+    ensures fits { IfOk result (λ g. IsTooLarge g.root → ⊥) }
+    ensures refused { IfErr result (λ e. (root : PbType) → slice_get arch.now.blocks block ≡ Some root → IsRefusal root e) }
 {
     let root = copy_block(alloc, &arch.blocks.as_slice()[block as usize])?;
+    check_tree(alloc, &root)?;
     let places = places_of(alloc, &root)?;
     let edges = edges_of(alloc, &places)?;
     let into = ends_of(alloc, edges.as_slice())?;

@@ -6,12 +6,11 @@ mod copy;
 mod edges;
 mod ends;
 mod error;
+mod faults;
 mod graph;
 mod number;
 mod places;
 mod rows;
-#[cfg(test)]
-mod tests;
 
 pub use error::ExpandError;
 pub use graph::{PbGraph, expand};

@@ -1,16 +1,18 @@
-ghost use Rattle.std.specs.Prelude.{◌≡◌, ◌≤◌, ◌<◌, ◌^◌, ℕ, ◌++◌, ◌∷◌, [], Some, true, IfOk, OnOk, map, length, slice_get};
+ghost use Rattle.std.specs.Prelude.{◌≡◌, ◌≤◌, ◌<◌, ◌+◌, ◌^◌, ℕ, ◌++◌, ◌∷◌, [], ◌⊎◌, Some, true, IfOk, OnOk, IsErrOf, map, length, slice_get};
 ghost use Rattle.vtr_base.specs.Lists.{up_from};
 ghost use Rattle.arch_types.specs.Address.{instances_of};
 ghost use Rattle.pb_expand.specs.Graph.{pin_at, pins_of_ports, pins_of};
 ghost use Rattle.pb_expand.specs.Rows.{addresses, IsTree};
-ghost use Rattle.pb_expand.specs.Making.{AreBlocks, AreShort, pins_over};
+ghost use Rattle.pb_expand.specs.Making.{AreBlocks, AreShort, AreChildren, StandFor, IsLike, pins_over};
+ghost use Rattle.pb_expand.specs.declared.error.SizeError.{SizeError};
 
-use crate::graph::{child_below, modes_in};
+use crate::error::SizeError;
+use crate::graph::{child_below, modes_in, place_of_step};
 use crate::rows::{push_below, short};
-use crate::{ExpandError, PbIx, PinAt, Step};
+use crate::{PbIx, PinAt, Step};
 use arch_types::{PbType, Port};
 use indexmap::IndexSet;
-use std::alloc::Global;
+use std::alloc::{AllocError, Global};
 use std::hash::Hash;
 
 const MOST_PINS: usize = 1048576;
@@ -19,6 +21,8 @@ const MOST_PINS: usize = 1048576;
 #[derive(Drop)]
 pub(crate) struct Places<'a> {
     pub blocks: Vec<&'a PbType>,
+    /// For each instance one of the same pb_type: the first of them, which stands for itself.
+    pub firsts: Vec<PbIx>,
     pub rows: IndexSet<Step>,
     pub pins: IndexSet<PinAt>,
 }
@@ -30,6 +34,7 @@ impl Places<'_> {
     {
         let Places {
             blocks: _,
+            firsts: _,
             rows,
             pins,
         } = self;
@@ -38,23 +43,29 @@ impl Places<'_> {
 }
 
 /// Numbers the instances and pins of a block type.
-pub(crate) fn places_of(alloc: Global, root: &PbType) -> Result<Places<'_>, ExpandError>
+pub(crate) fn places_of(alloc: Global, root: &PbType) -> Result<Places<'_>, SizeError>
     ensures tree { IfOk result (λ p. IsTree p.rows.keys) }
     ensures instances { IfOk result (λ p. addresses p.rows.keys ≡ instances_of root.now) }
     ensures blocks { IfOk result (λ p. AreBlocks root.now (instances_of root.now) (map (λ b. b.now) p.blocks.items)) }
     ensures short { IfOk result (λ p. AreShort (map (λ b. b.now) p.blocks.items)) }
+    ensures firsts { IfOk result (λ p. StandFor (map (λ b. b.now) p.blocks.items) p.firsts.items) }
+    ensures all_firsts { IfOk result (λ p. length p.firsts.items ≡ length p.blocks.items) }
     ensures pins { IfOk result (λ p. p.pins.keys ≡ pins_of root.now) }
     ensures few_rows { IfOk result (λ p. length p.rows.keys ≤ 1048575) }
     ensures few_pins { IfOk result (λ p. length p.pins.keys ≤ 1048576) }
+    ensures many { IsErrOf result SizeError.TooMany → (1048576 < length (instances_of root.now)) ⊎ (1048576 < length (pins_of root.now)) }
 {
     let mut rows = Vec::new(alloc);
     push_below(&mut rows, PbIx(0), root)?;
     let blocks = blocks_of(alloc, root, rows.as_slice())?;
     let pins = pins_of_blocks(alloc, blocks.as_slice())?;
     root.numbering();
+    let row_set = set_of(alloc, rows.as_slice())?;
+    let firsts = firsts_of(alloc, blocks.as_slice(), &row_set)?;
     Ok(Places {
         blocks,
-        rows: set_of(alloc, rows.as_slice())?,
+        firsts,
+        rows: row_set,
         pins: set_of(alloc, pins.as_slice())?,
     })
 }
@@ -64,7 +75,7 @@ fn blocks_of<'a>(
     alloc: Global,
     root: &'a PbType,
     rows: &[Step],
-) -> Result<Vec<&'a PbType>, ExpandError>
+) -> Result<Vec<&'a PbType>, AllocError>
     requires tree { IsTree rows.now }
     requires instances { addresses rows.now ≡ instances_of root.now }
     ensures blocks { IfOk result (λ bs. AreBlocks root.now (instances_of root.now) (map (λ b. b.now) bs.items)) }
@@ -80,7 +91,7 @@ fn blocks_of<'a>(
 }
 
 /// Adds a pb_type whose modes can be numbered.
-fn push_block<'a>(blocks: &mut Vec<&'a PbType>, block: &'a PbType) -> Result<(), ExpandError>
+fn push_block<'a>(blocks: &mut Vec<&'a PbType>, block: &'a PbType) -> Result<(), AllocError>
     requires { AreShort (map (λ b. b.now) blocks.old.items) }
     ensures added { OnOk result (map (λ b. b.now) blocks.new.items ≡ map (λ b. b.now) blocks.old.items ++ block.now ∷ []) }
     ensures short { OnOk result (AreShort (map (λ b. b.now) blocks.new.items)) }
@@ -90,11 +101,56 @@ fn push_block<'a>(blocks: &mut Vec<&'a PbType>, block: &'a PbType) -> Result<(),
     Ok(())
 }
 
+/// For each instance the first one of its pb_type.
+fn firsts_of(
+    alloc: Global,
+    blocks: &[&PbType],
+    rows: &IndexSet<Step>,
+) -> Result<Vec<PbIx>, AllocError>
+    requires tree { IsTree rows.now.keys }
+    requires few { length rows.now.keys ≤ 1048575 }
+    requires all { length blocks.now ≡ 1 + length rows.now.keys }
+    requires children { AreChildren rows.now.keys (map (λ b. b.now) blocks.now) }
+    ensures firsts { IfOk result (λ fs. StandFor (map (λ b. b.now) blocks.now) fs.items) }
+    ensures all { IfOk result (λ fs. length fs.items ≡ length blocks.now) }
+{
+    let mut firsts = Vec::with_capacity(alloc, blocks.len())?;
+    firsts.push(PbIx(0))?;
+    for row in rows.as_slice() {
+        let first = first_like(rows, firsts.as_slice(), *row);
+        firsts.push(first)?;
+    }
+    Ok(firsts)
+}
+
+/// The first instance of the pb_type of the next row, where the instances before it have these:
+/// its parent's first one has the same child as instance 0, unless that is the next row itself.
+fn first_like(rows: &IndexSet<Step>, firsts: &[PbIx], row: Step) -> PbIx
+    requires there { row.parent.0 < length firsts.now }
+    requires few { length firsts.now ≤ 1048576 }
+    ensures { (result.0 ≡ length firsts.now) ⊎ IsLike rows.now.keys firsts.now row result }
+{
+    let like = Step {
+        parent: firsts[row.parent.0 as usize],
+        mode: row.mode,
+        child: row.child,
+        instance: 0,
+    };
+    let Some(found) = place_of_step(rows, like) else {
+        return PbIx(firsts.len() as u32);
+    };
+    if found >= firsts.len() - 1 {
+        return PbIx(firsts.len() as u32);
+    }
+    firsts[found + 1]
+}
+
 /// The pins of all instances.
-fn pins_of_blocks(alloc: Global, blocks: &[&PbType]) -> Result<Vec<PinAt>, ExpandError>
+fn pins_of_blocks(alloc: Global, blocks: &[&PbType]) -> Result<Vec<PinAt>, SizeError>
     requires { length blocks.now ≤ 1048576 }
     ensures pins { IfOk result (λ ps. ps.items ≡ pins_over 0 (map (λ b. b.now) blocks.now)) }
     ensures few { IfOk result (λ ps. length ps.items ≤ 1048576) }
+    ensures many { IsErrOf result SizeError.TooMany → 1048576 < length (pins_over 0 (map (λ b. b.now) blocks.now)) }
 {
     let mut pins = Vec::new(alloc);
     for (pb, block) in blocks.iter().enumerate() {
@@ -104,10 +160,11 @@ fn pins_of_blocks(alloc: Global, blocks: &[&PbType]) -> Result<Vec<PinAt>, Expan
 }
 
 /// Adds the pins of an instance.
-fn push_ports(pins: &mut Vec<PinAt>, pb: PbIx, ports: &[Port]) -> Result<(), ExpandError>
+fn push_ports(pins: &mut Vec<PinAt>, pb: PbIx, ports: &[Port]) -> Result<(), SizeError>
     requires { length ports.now < 2 ^ 32 }
     ensures added { OnOk result (pins.new.items ≡ pins.old.items ++ pins_of_ports pb.0 0 ports.now) }
     ensures few { OnOk result (length pins.old.items ≤ 1048576 → length pins.new.items ≤ 1048576) }
+    ensures many { IsErrOf result SizeError.TooMany → 1048576 < length pins.old.items + length (pins_of_ports pb.0 0 ports.now) }
 {
     for (port, is) in ports.iter().enumerate() {
         push_bits(pins, pb, port as u32, is.width)?;
@@ -116,13 +173,14 @@ fn push_ports(pins: &mut Vec<PinAt>, pb: PbIx, ports: &[Port]) -> Result<(), Exp
 }
 
 /// Adds the pins of a port.
-fn push_bits(pins: &mut Vec<PinAt>, pb: PbIx, port: u32, width: u32) -> Result<(), ExpandError>
+fn push_bits(pins: &mut Vec<PinAt>, pb: PbIx, port: u32, width: u32) -> Result<(), SizeError>
     ensures added { OnOk result (pins.new.items ≡ pins.old.items ++ map (pin_at pb.0 port) (up_from 0 width)) }
     ensures few { OnOk result (length pins.old.items ≤ 1048576 → length pins.new.items ≤ 1048576) }
+    ensures many { IsErrOf result SizeError.TooMany → 1048576 < length pins.old.items + width }
 {
     for bit in 0..width {
         if pins.len() >= MOST_PINS {
-            return Err(ExpandError::TooMany);
+            return Err(SizeError::TooMany);
         }
         pins.push(PinAt { pb, port, bit })?;
     }
@@ -130,10 +188,7 @@ fn push_bits(pins: &mut Vec<PinAt>, pb: PbIx, port: u32, width: u32) -> Result<(
 }
 
 /// The set of these items, each at its place in the list.
-fn set_of<T: Copy + Eq + Hash + Drop>(
-    alloc: Global,
-    items: &[T],
-) -> Result<IndexSet<T>, ExpandError>
+fn set_of<T: Copy + Eq + Hash + Drop>(alloc: Global, items: &[T]) -> Result<IndexSet<T>, AllocError>
     requires { (i j : ℕ) (x y : T) → slice_get items.now i ≡ Some x → slice_get items.now j ≡ Some y → T.eq x y ≡ true → i ≡ j }
     ensures { IfOk result (λ s. s.keys ≡ items.now) }
 {

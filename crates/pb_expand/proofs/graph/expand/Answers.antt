@@ -1,26 +1,54 @@
-use Rattle.std.proofs.Common.{Some, map, length, get_or, refl, sym, ap, ◌∙◌, subst, arith}
+use Rattle.std.proofs.Common.{◌≡◌, Some, Err, map, length, get_or, slice_get, refl, sym, ap, ◌∙◌, subst, inr, arith}
 use Rattle.std.proofs.lemmas.List.{length-map}
 use Rattle.std.proofs.lemmas.Option.{slice_get_read}
+use Rattle.arch_types.specs.declared.block.PbType.{PbType}
 use Rattle.pb_expand.specs.Rows.{addresses}
 use Rattle.pb_expand.specs.Ends.{AreEnds}
 use Rattle.pb_expand.specs.Making.{AreBefore}
-use Rattle.pb_expand.proofs.Numbers.{numbered, few_blocks}
+use Rattle.pb_expand.specs.Refusals.{IsRefusal, edge_told, size_told}
+use Rattle.pb_expand.proofs.RowLemmas.{length-addresses}
 use Rattle.pb_expand.proofs.Tying.{tied}
+use Rattle.pb_expand.proofs.Told.{passed_with}
+use Rattle.pb_expand.proofs.Verdicts.{fault_told, excess_told, more_edges, not_more, at_root, or_edges, small}
+use Rattle.pb_expand.proofs.Parts.{parts}
 use Rattle.pb_expand.proofs.graph.expand.Goals as goal
 
-pub edges_of-requires-clause-numbered : goal.edges_of-requires-clause-numbered
-edges_of-requires-clause-numbered c =
-    numbered c.in_ok-root.root c.in_ok-places.places.rows.keys c.in_ok-places.places.pins.keys c.in_ok-places.ensures.tree c.in_ok-places.ensures.instances
-    c.in_ok-places.ensures.pins c.in_ok-places.ensures.few_rows c.in_ok-places.ensures.few_pins
+pub returns-in_err-check_tree-clause-refused : goal.returns-in_err-check_tree-clause-refused
+returns-in_err-check_tree-clause-refused c =
+    let e = c.in_err-check_tree.field-0.0 in
+    let copied = slice_get_read c.args.arch.now.blocks (length c.args.arch.now.blocks) c.args.block c.index-as_slice-block.result refl c.requires
+    (c.index-as_slice-block.is ∙ ap (λ l. get_or l c.args.block c.index-as_slice-block.result) c.as_slice.ensures) ∙ ap Some (sym c.in_ok-root.ensures) in
+    passed_with (λ d. (root : PbType) → slice_get c.args.arch.now.blocks c.args.block ≡ Some root → IsRefusal root d) _ (edge_told e) c.from_residual-in_err-check_tree.ensures.1
+    (at_root c.args.arch.now.blocks c.args.block c.in_ok-root.root (edge_told e) copied (fault_told c.in_ok-root.root e c.in_err-check_tree.ensures.fault))
 
-pub edges_of-requires-clause-few : goal.edges_of-requires-clause-few
-edges_of-requires-clause-few c =
-    omega (
-      arith,
-      c.in_ok-places.ensures.few_rows,
-      length-map c.in_ok-places.places.blocks.items (λ b. b.now),
-      few_blocks c.in_ok-root.root c.in_ok-places.places.rows.keys (map (λ b. b.now) c.in_ok-places.places.blocks.items) c.in_ok-places.ensures.instances c.in_ok-places.ensures.blocks,
-    )
+pub returns-in_err-places-clause-refused : goal.returns-in_err-places-clause-refused
+returns-in_err-places-clause-refused c =
+    let e = c.in_err-places.field-0.0 in
+    let copied = slice_get_read c.args.arch.now.blocks (length c.args.arch.now.blocks) c.args.block c.index-as_slice-block.result refl c.requires
+    (c.index-as_slice-block.is ∙ ap (λ l. get_or l c.args.block c.index-as_slice-block.result) c.as_slice.ensures) ∙ ap Some (sym c.in_ok-root.ensures) in
+    passed_with (λ d. (root : PbType) → slice_get c.args.arch.now.blocks c.args.block ≡ Some root → IsRefusal root d) _ (size_told e) c.from_residual-in_err-places.ensures.1
+    (at_root c.args.arch.now.blocks c.args.block c.in_ok-root.root (size_told e) copied
+    (excess_told c.in_ok-root.root e (Err e) refl c.in_ok-check_tree.ensures.sound (λ told. or_edges c.in_ok-root.root (c.in_err-places.ensures.many told))))
+
+pub edges_of-requires-clause-parts : goal.edges_of-requires-clause-parts
+edges_of-requires-clause-parts c =
+    let places = c.in_ok-places.places in
+    parts c.in_ok-root.root places.rows.keys places.pins.keys (map (λ b. b.now) places.blocks.items) c.in_ok-places.ensures.tree c.in_ok-places.ensures.instances
+    c.in_ok-places.ensures.blocks c.in_ok-places.ensures.short c.in_ok-places.ensures.pins c.in_ok-places.ensures.few_rows c.in_ok-places.ensures.few_pins
+    c.in_ok-check_tree.ensures.sound
+
+pub returns-in_err-edges-clause-refused : goal.returns-in_err-edges-clause-refused
+returns-in_err-edges-clause-refused c =
+    let e = c.in_err-edges.field-0.0 in
+    let root = c.in_ok-root.root in
+    let places = c.in_ok-places.places in
+    let copied = slice_get_read c.args.arch.now.blocks (length c.args.arch.now.blocks) c.args.block c.index-as_slice-block.result refl c.requires
+    (c.index-as_slice-block.is ∙ ap (λ l. get_or l c.args.block c.index-as_slice-block.result) c.as_slice.ensures) ∙ ap Some (sym c.in_ok-root.ensures) in
+    passed_with (λ d. (root : PbType) → slice_get c.args.arch.now.blocks c.args.block ≡ Some root → IsRefusal root d) _ (size_told e) c.from_residual-in_err-edges.ensures.1
+    (at_root c.args.arch.now.blocks c.args.block root (size_told e) copied
+    (excess_told root e (Err e) refl c.in_ok-check_tree.ensures.sound (λ told.
+    inr (inr (more_edges root (map (λ b. b.now) places.blocks.items) (addresses places.rows.keys) places.pins.keys 4194304 c.in_ok-places.ensures.blocks
+    c.in_ok-places.ensures.instances c.in_ok-places.ensures.pins (c.in_err-edges.ensures.many told))))))
 
 pub invariant_of-result : goal.invariant_of-result
 invariant_of-result c =
@@ -35,7 +63,18 @@ invariant_of-result c =
 
 pub returns-clause-root : goal.returns-clause-root
 returns-clause-root c =
-    let inside = c.requires in
-    slice_get_read c.args.arch.now.blocks (length c.args.arch.now.blocks) c.args.block c.index-as_slice-block.result refl inside
+    slice_get_read c.args.arch.now.blocks (length c.args.arch.now.blocks) c.args.block c.index-as_slice-block.result refl c.requires
     (c.index-as_slice-block.is ∙ ap (λ l. get_or l c.args.block c.index-as_slice-block.result) c.as_slice.ensures)
     ∙ ap Some (sym c.in_ok-root.ensures)
+
+pub returns-clause-fits : goal.returns-clause-fits
+returns-clause-fits c =
+    let root = c.in_ok-root.root in
+    let places = c.in_ok-places.places in
+    let blocks = map (λ b. b.now) places.blocks.items in
+    let before = subst (λ n. AreBefore blocks (addresses places.rows.keys) places.pins.keys n 0 c.in_ok-edges.edges.items)
+    (sym (length-map places.blocks.items (λ b. b.now))) c.in_ok-edges.ensures.edges in
+    small root (not_more root blocks (addresses places.rows.keys) places.pins.keys c.in_ok-edges.edges.items 4194304 c.in_ok-places.ensures.blocks c.in_ok-places.ensures.instances
+    c.in_ok-places.ensures.pins before c.in_ok-edges.ensures.few)
+    (omega (arith, c.in_ok-places.ensures.few_rows, length-addresses places.rows.keys, ap length c.in_ok-places.ensures.instances))
+    (omega (arith, c.in_ok-places.ensures.few_pins, ap length c.in_ok-places.ensures.pins))

@@ -1,9 +1,9 @@
 use Rattle.std.proofs.Common.{◌≤◌, length, map}
 use Rattle.pb_expand.specs.Rows.{addresses}
 use Rattle.pb_expand.specs.Making.{AreBefore}
-use Rattle.pb_expand.proofs.edges.push_modes.Given as goal
+use Rattle.pb_expand.proofs.edges.push_known.Given as goal
 
 abbrev pub invariant-loop-mode : goal.invariant-loop-mode
 invariant-loop-mode l =
     AreBefore (map (λ b. b.now) l.places.blocks.items) (addresses l.places.rows.keys) l.places.pins.keys l.owner.0 l.mode l.edges.items
-    × (length l.fn.edges.items ≤ 4194304 → length l.edges.items ≤ 4194304)
+    × (length l.edges.items ≤ 4194304)
