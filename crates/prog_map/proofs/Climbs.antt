@@ -1,5 +1,5 @@
 -- An instance is live where its parent is, and is set to the mode in which it stands.
-use Rattle.std.proofs.Common.{◌≡◌, ℕ, List, [], ◌∷◌, ◌++◌, Option, Some, None, refl, sym, ap, ◌∙◌, subst, append-nil, append_assoc}
+use Rattle.std.proofs.Common.{◌≡◌, ℕ, List, [], ◌∷◌, ◌++◌, Some, sym, ap, ◌∙◌, subst, append-nil, append_assoc}
 use Rattle.std.specs.Prelude.{slice_get}
 use Rattle.arch_types.specs.Address.{Address, Hop, step_to}
 use Rattle.pb_expand.specs.declared.number.Step.{Step}

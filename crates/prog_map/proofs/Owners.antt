@@ -1,21 +1,20 @@
 -- Whose edges lead into a pin: those of its own instance, or of that instance's parent.
-use Rattle.std.proofs.Common.{◌≡◌, ◌<◌, ◌⊎◌, inl, inr, ℕ, Bool, true, false, not, eqb, arith, List, [], ◌∷◌, ◌++◌, length, Option, Some, None, refl, sym, ap, ◌∙◌, subst}
+use Rattle.std.proofs.Common.{◌≡◌, ◌<◌, ◌⊎◌, inl, inr, ℕ, false, not, eqb, arith, List, [], ◌∷◌, ◌++◌, length, Option, Some, None, refl, sym, ap, ◌∙◌, subst}
 use Rattle.std.specs.Prelude.{slice_get, MatchOption}
 use Rattle.std.proofs.lemmas.Bool.Decides.{nat_tests}
 use Rattle.pb_expand.specs.declared.number.PinIx.{PinIx}
 use Rattle.std.proofs.lemmas.Option.{slice_get_within}
-use Rattle.arch_types.specs.Address.{Address, Hop, step_to}
-use Rattle.mode_edges.specs.declared.pin.LocalPin.{LocalPin}
+use Rattle.arch_types.specs.Address.{Address, Hop}
 use Rattle.mode_edges.specs.declared.pin.ChildAt.{ChildAt}
 use Rattle.pb_expand.specs.declared.number.Step.{Step}
 use Rattle.pb_expand.specs.declared.number.PinAt.{PinAt}
 use Rattle.pb_expand.specs.declared.number.Edge.{Edge}
 use Rattle.pb_expand.specs.Graph.{Graph, LeadsTo, pin_at}
-use Rattle.pb_expand.specs.Expansion.{IsExpansion, IsEdgeOf, StandsAt, owner_address}
+use Rattle.pb_expand.specs.Expansion.{IsExpansion, IsEdgeOf, owner_address}
 use Rattle.pb_expand.proofs.Lists.{has_at, snoc_front}
 use Rattle.prog_map.specs.Choices.{Choices, mode_of, pick_of, IsProgOf}
 use Rattle.prog_map.specs.Live.{IsLiveAt}
-use Rattle.prog_map.specs.Back.{StepsBack, StepsBackIn}
+use Rattle.prog_map.specs.Back.{StepsByEdge, StepsBackIn}
 use Rattle.prog_map.proofs.Climbs.{some_injective}
 
 -- the instance of number `owner` is the parent of the instance of number n
@@ -66,7 +65,7 @@ parent_is g owner n s law to above =
 -- where neither the instance nor its parent leads back, nothing does
 pub no_step : (g : Graph) (c : Choices) → IsExpansion g → (pin : ℕ) (at : PinAt) → slice_get g.pins pin ≡ Some at →
     ((p : ℕ) → StepsBackIn g c at.pb.0 pin p → ⊥) → ((owner p : ℕ) → IsAbove g owner at.pb.0 → StepsBackIn g c owner pin p → ⊥) →
-    (p : ℕ) → StepsBack g c pin p → ⊥
+    (p : ℕ) → StepsByEdge g c pin p → ⊥
 no_step g c law pin at is_at own above p back =
     let s : StepsBackIn g c back.owner pin p = back.step in
     let is_end : slice_get g.pins s.edge.dst.0 ≡ Some at = ap (λ k. slice_get g.pins k) s.ends ∙ is_at in
@@ -106,7 +105,7 @@ same_number a b is = grind (arith, nat_tests)
 pub by_parent : (g : Graph) (c : Choices) → IsExpansion g → (pin : ℕ) (at : PinAt) (s : Step) → slice_get g.pins pin ≡ Some at → LeadsTo g.instances s at.pb.0 →
     ((p : ℕ) → StepsBackIn g c at.pb.0 pin p → ⊥) → (r : Option PinIx) →
     MatchOption r ((p : ℕ) → StepsBackIn g c s.parent.0 pin p → ⊥) (λ p. StepsBackIn g c s.parent.0 pin p.0) →
-    MatchOption r ((p : ℕ) → StepsBack g c pin p → ⊥) (λ p. StepsBack g c pin p.0)
+    MatchOption r ((p : ℕ) → StepsByEdge g c pin p → ⊥) (λ p. StepsByEdge g c pin p.0)
 by_parent g c law pin at s is_at to own None none =
     no_step g c law pin at is_at own
     (λ owner p up step. none p (subst (λ o. StepsBackIn g c o pin p) (parent_is g owner at.pb.0 s law to up) step))

@@ -1,52 +1,110 @@
--- What was read of a programming's text: whatever is read of the rest completes it.
-use Rattle.std.proofs.Common.{◌≡◌, ℕ, Bool, true, List, [], ◌∷◌, ◌++◌, length, refl, subst, sym, ap, ◌∙◌, arith, Result, Ok, Err, OnOk}
-use Rattle.std.specs.Prelude.{◌==◌, codes}
-use Rattle.std.proofs.lemmas.Bool.Decides.{nat_tests}
-use Rattle.vtr_base.specs.Spans.{IsCut}
+-- What was read of a programming's text, line by line.
+use Rattle.std.proofs.Common.{◌≡◌, ◌≢◌, ◌+◌, ℕ, min, List, [], ◌∷◌, ◌++◌, length, refl, subst, sym, arith}
+use Rattle.std.proofs.lemmas.List.{length-append}
 use Rattle.pb_expand.specs.Graph.{Graph}
+use Rattle.prog_map.specs.declared.error.ProgError.{ProgError}
+use Rattle.prog_map.specs.declared.error.ProgError.TheVariants.{BadLine, NoSuchSite, NoSuchChoice, TwiceSet, OutOfMemory}
+use Rattle.prog_map.specs.declared.setting.Setting.{Setting}
+use Rattle.prog_map.specs.declared.setting.Setting.TheVariants.{Mode, Pick, Used, Lut}
 use Rattle.prog_map.specs.Choices.{Choices, no_choices, IsProgOf}
-use Rattle.prog_map.specs.Lines.{AreLines, IsFirstLine}
-use Rattle.prog_map.specs.Text.{ReadsLine, passes, sets_mode, sets_pin, ReadsLines, SetsMode, SetsPin, SpellsProg}
+use Rattle.prog_map.specs.Lines.{IsFirstLine, AreFirstLines}
+use Rattle.prog_map.specs.Sayings.{Saying, says_mode, says_pin, says_used, says_wire, says_table, Says}
+use Rattle.prog_map.specs.Settings.{Names, IsNamed, HasChoice, site_of, with_setting}
+use Rattle.prog_map.specs.Text.{SetsSite, ReadsLine, ReadsLines, SpellsProg, Lacks, SetsAgain, RefusesLine, line_number, StopsAt, Refuses}
+use Rattle.prog_map.proofs.Kept.{mode_kept, pick_kept, used_kept, lut_kept, named_there}
 
-pub record IsAlong (g : Graph) (bytes rest : List ℕ) (now : Choices) : Type 0 where
+-- the lines that were read
+pub record IsAlong (g : Graph) (bytes rest : List ℕ) (now : Choices) (number : ℕ) : Type 0 where
   pub of : IsProgOf g now
-  pub goes : (lines : List (List ℕ)) (after : Choices) → AreLines rest lines → ReadsLines g lines now after → SpellsProg g bytes after
+  pub front : List (List ℕ)
+  pub are_first : AreFirstLines bytes front rest
+  pub reads : ReadsLines g front no_choices now
+  pub count : number ≡ min (length front) 4294967295
 
-pub along_first : (g : Graph) (bytes : List ℕ) (c : Choices) → c ≡ no_choices → IsProgOf g c → IsAlong g bytes bytes c
-along_first g bytes c off of = record {
+pub along_first : (g : Graph) (bytes : List ℕ) (c : Choices) → c ≡ no_choices → IsProgOf g c → IsAlong g bytes bytes c 0
+along_first g bytes c off of = record { of = of; front = []; are_first = refl; reads = off; count = refl }
+
+first_more : (bytes : List ℕ) (front : List (List ℕ)) (rest line behind : List ℕ) → AreFirstLines bytes front rest → IsFirstLine rest line behind →
+    AreFirstLines bytes (front ++ line ∷ []) behind
+first_more bytes [] rest line behind are is = (behind, subst (λ b. IsFirstLine b line behind) are is, refl)
+first_more bytes (l ∷ front) rest line behind are is = (are.0, are.1, first_more are.0 front rest line behind are.2 is)
+
+reads_more : (g : Graph) (front : List (List ℕ)) (line : List ℕ) (before now next : Choices) → ReadsLines g front before now → ReadsLine g line now next →
+    ReadsLines g (front ++ line ∷ []) before next
+reads_more g [] line before now next reads is = (next, subst (λ c. ReadsLine g line c next) reads is, refl)
+reads_more g (l ∷ front) line before now next reads is = (reads.0, reads.1, reads_more g front line reads.0 now next reads.2 is)
+
+pub along_next : (g : Graph) (bytes rest line behind : List ℕ) (now next : Choices) (number more : ℕ) → IsAlong g bytes rest now number → IsFirstLine rest line behind →
+    ReadsLine g line now next → IsProgOf g next → more ≡ min (number + 1) 4294967295 → IsAlong g bytes behind next more
+along_next g bytes rest line behind now next number more along is reads of counted = record {
   of = of;
-  goes = λ lines after are reads. record {
-    lines = lines;
-    are_lines = are;
-    reads = subst (λ x. ReadsLines g lines x after) off reads;
-  };
+  front = along.front ++ line ∷ [];
+  are_first = first_more bytes along.front rest line behind along.are_first is;
+  reads = reads_more g along.front line no_choices now next along.reads reads;
+  count = omega (arith, along.count, counted, length-append along.front (line ∷ []));
 }
 
-pub along_next : (g : Graph) (bytes rest line behind : List ℕ) (now next : Choices) → IsAlong g bytes rest now → IsFirstLine rest line behind →
-    ReadsLine g line now next → IsProgOf g next → IsAlong g bytes behind next
-along_next g bytes rest line behind now next along first reads of = record {
-  of = of;
-  goes = λ lines after are more. along.goes (line ∷ lines) after (behind, first, are) (next, reads, more);
+pub along_end : (g : Graph) (bytes rest : List ℕ) (now : Choices) (number : ℕ) → IsAlong g bytes rest now number → rest ≡ [] → SpellsProg g bytes now
+along_end g bytes rest now number along ended = record {
+  lines = along.front;
+  are_lines = subst (λ r. AreFirstLines bytes along.front r) ended along.are_first;
+  reads = along.reads;
 }
 
-pub along_end : (g : Graph) (bytes rest : List ℕ) (now : Choices) → IsAlong g bytes rest now → rest ≡ [] → SpellsProg g bytes now
-along_end g bytes rest now along ended = along.goes [] now ended refl
+-- a line that can't be read stops the reading
+pub along_stops : (g : Graph) (bytes rest line behind : List ℕ) (now : Choices) (number more : ℕ) (e : ProgError) → IsAlong g bytes rest now number →
+    IsFirstLine rest line behind → line ≢ [] → more ≡ min (number + 1) 4294967295 → RefusesLine g line now more e → Refuses g bytes e
+along_stops g bytes rest line behind now number more e along is some counted refuses = by e (subst (λ n. RefusesLine g line now n e) here refuses)
+  where
+    here : more ≡ line_number along.front
+    here = omega (arith, along.count, counted)
 
-pub reads_nothing : (g : Graph) (line : List ℕ) (c : Choices) → (length line == 0) ≡ true → ReadsLine g line c c
-reads_nothing g [] c e = passes c
-reads_nothing g (x ∷ xs) c e = absurd (grind (arith, nat_tests, e))
+    stops : (e : ProgError) → RefusesLine g line now (line_number along.front) e → StopsAt g bytes e
+    stops e refuses = record {
+      front = along.front;
+      rest = rest;
+      are_first = along.are_first;
+      before = now;
+      reads = along.reads;
+      line = line;
+      behind = behind;
+      is_line = is;
+      some = some;
+      refuses = refuses;
+    }
 
-cut_word : (line keyword word words : List ℕ) → IsCut line 32 keyword words → keyword ≡ word → word ++ 32 ∷ words ≡ line
-cut_word line keyword word words is same = ap (λ k. k ++ 32 ∷ words) (sym same) ∙ sym is.spelled
+    by : (e : ProgError) → RefusesLine g line now (line_number along.front) e → Refuses g bytes e
+    by (BadLine at) r = stops (BadLine at) r
+    by (NoSuchSite at) r = stops (NoSuchSite at) r
+    by (NoSuchChoice at) r = stops (NoSuchChoice at) r
+    by (TwiceSet at) r = stops (TwiceSet at) r
+    by OutOfMemory r = tt
 
-pub reads_mode : {E : Type 0} (g : Graph) (line keyword words : List ℕ) (before after : Choices) (r : Result Unit E) → IsCut line 32 keyword words →
-    keyword ≡ codes "mode" → OnOk r (SetsMode g words before after) → OnOk r (ReadsLine g line before after)
-reads_mode g line keyword words before after (Ok x) is same sets =
-    subst (λ l. ReadsLine g l before after) (cut_word line keyword (codes "mode") words is same) (sets_mode words before after sets)
-reads_mode g line keyword words before after (Err e) is same sets = tt
+-- what a line lacks refuses it
+pub lacks_refuses : (g : Graph) (line : List ℕ) (before : Choices) (number : ℕ) (e : ProgError) → Lacks g (Says line) number e → RefusesLine g line before number e
+lacks_refuses g line before number (BadLine at) l = l
+lacks_refuses g line before number (NoSuchSite at) l = l
+lacks_refuses g line before number (NoSuchChoice at) l = l
+lacks_refuses g line before number (TwiceSet at) l = absurd l
+lacks_refuses g line before number OutOfMemory l = tt
 
-pub reads_pin : {E : Type 0} (g : Graph) (line keyword words : List ℕ) (before after : Choices) (r : Result Unit E) → IsCut line 32 keyword words →
-    keyword ≡ codes "pin" → OnOk r (SetsPin g words before after) → OnOk r (ReadsLine g line before after)
-reads_pin g line keyword words before after (Ok x) is same sets =
-    subst (λ l. ReadsLine g l before after) (cut_word line keyword (codes "pin") words is same) (sets_pin words before after sets)
-reads_pin g line keyword words before after (Err e) is same sets = tt
+-- a programming of the graph stays one
+pub setting_kept : (g : Graph) (c : Choices) (Said : Saying → Type 0) (set : Setting) → IsProgOf g c → IsNamed g Said set → IsProgOf g (with_setting c set)
+setting_kept g c Said set of named = by named.saying set named.names
+  where
+    by : (s : Saying) (set : Setting) → Names g s set → IsProgOf g (with_setting c set)
+    by (says_mode i m) (Mode pb number) names = mode_kept g c pb.0 number of (named_there g pb.0 m number names.2)
+    by (says_pin p m source) (Pick pin mode edge) names =
+        pick_kept g c pin.0 mode edge.0 of (record { edge = names.edge; there = names.named.is; ends = names.named.ends; in_mode = sym names.is_mode })
+    by (says_used i) (Used pb) names = used_kept g c pb.0 of names.1
+    by (says_wire i k) (Lut pb choice) names = lut_kept g c pb.0 choice of names.2
+    by (says_table i d) (Lut pb choice) names = lut_kept g c pb.0 choice of names.2
+    by _ _ names = absurd names
+
+pub sets_site : (g : Graph) (line : List ℕ) (before after : Choices) (set : Setting) → IsNamed g (Says line) set → (HasChoice before (site_of set) → ⊥) →
+    after ≡ with_setting before set → SetsSite g line before after
+sets_site g line before after set named unset sets =
+    record { saying = named.saying; says = named.said; setting = set; names = named.names; unset = unset; sets = sets }
+
+pub sets_again : (g : Graph) (line : List ℕ) (before : Choices) (set : Setting) → IsNamed g (Says line) set → HasChoice before (site_of set) → SetsAgain g line before
+sets_again g line before set named has = record { saying = named.saying; says = named.said; setting = set; names = named.names; set = has }

@@ -4,10 +4,9 @@ use Rattle.std.specs.Prelude.{slice_get, IsSome}
 use Rattle.std.specs.Option.{option_map, option_map_or, option_and_then}
 use Rattle.arch_types.specs.declared.block.PbType.{PbType}
 use Rattle.std.proofs.lemmas.Option.{slice_get-get_or}
-use Rattle.arch_types.specs.declared.block.Mode.{Mode}
 use Rattle.arch_types.specs.declared.block.Port.{Port}
 use Rattle.arch_types.specs.Tree.{modes_of, name_of_mode}
-use Rattle.arch_types.specs.Address.{Address, Hop, at, child_at, step_to}
+use Rattle.arch_types.specs.Address.{Address, Hop, at, child_at}
 use Rattle.pb_expand.specs.declared.number.Step.{Step}
 use Rattle.pb_expand.specs.Graph.{Graph, LeadsTo, hop_of, block_at, mode_at}
 use Rattle.pb_expand.specs.declared.number.PinAt.{PinAt}

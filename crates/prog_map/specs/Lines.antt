@@ -24,6 +24,11 @@ pub record EndsAtEnd (bytes line rest : List ℕ) : Type 0 where
 abbrev pub IsFirstLine : List ℕ → List ℕ → List ℕ → Type 0
 IsFirstLine bytes line rest = EndsAtFeed bytes line rest ⊎ EndsAtEnd bytes line rest
 
+-- the bytes begin with these lines, and the rest follows them
+abbrev pub AreFirstLines : List ℕ → List (List ℕ) → List ℕ → Type 0
+AreFirstLines bytes [] rest = rest ≡ bytes
+AreFirstLines bytes (line ∷ lines) rest = (behind : List ℕ) × IsFirstLine bytes line behind × AreFirstLines behind lines rest
+
+-- the lines of the bytes
 abbrev pub AreLines : List ℕ → List (List ℕ) → Type 0
-AreLines bytes [] = bytes ≡ []
-AreLines bytes (line ∷ lines) = (rest : List ℕ) × IsFirstLine bytes line rest × AreLines rest lines
+AreLines bytes lines = AreFirstLines bytes lines []

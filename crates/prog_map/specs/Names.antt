@@ -1,13 +1,13 @@
 -- How instances and pins are written: an instance is the block type's name and `/MODE:CHILD[i]`
 -- for each step, and a pin is its instance, a dot, the port, and the bit in brackets.
-use Rattle.std.specs.Prelude.{◌≡◌, ◌<◌, ℕ, List, [], ◌∷◌, ◌++◌, Option, Some, None, slice_get, length}
+use Rattle.std.specs.Prelude.{◌≡◌, ◌<◌, ℕ, List, [], ◌∷◌, ◌++◌, Option, Some, slice_get, length}
 use Rattle.std.specs.Option.{option_map_or, option_and_then}
 use Rattle.std.specs.Fmt.{decimal}
 use Rattle.arch_types.specs.declared.block.PbType.{PbType}
 use Rattle.arch_types.specs.declared.block.Port.{Port}
 use Rattle.arch_types.specs.declared.block.Mode.{Mode}
 use Rattle.arch_types.specs.Tree.{modes_of, name_of_mode}
-use Rattle.arch_types.specs.Address.{Address, Hop, child_at}
+use Rattle.arch_types.specs.Address.{Address, child_at}
 use Rattle.pb_expand.specs.declared.number.PinAt.{PinAt}
 use Rattle.pb_expand.specs.Graph.{Graph, block_at, mode_at}
 

@@ -1,55 +1,26 @@
--- The text of a programming, one choice a line: `mode INST MODE`, and `pin PIN MODE PIN` where the
--- first pin takes the edge from the second in MODE.
-use Rattle.std.specs.Prelude.{◌≡◌, ◌⊎◌, ℕ, List, [], ◌∷◌, ◌++◌, Option, Some, None, slice_get, codes}
-use Rattle.vtr_base.specs.Spans.{Lacks}
-use Rattle.pb_expand.specs.declared.number.Edge.{Edge}
+-- The text of a programming, one choice a line, and the first line that can't be read.
+use Rattle.std.specs.Prelude.{◌≡◌, ◌≢◌, ◌⊎◌, ◌+◌, ℕ, min, List, [], ◌∷◌, length}
 use Rattle.pb_expand.specs.Graph.{Graph}
-use Rattle.prog_map.specs.Choices.{Choices, no_choices, mode_of, pick_of, with_mode, with_pick}
-use Rattle.prog_map.specs.Names.{NamesInstance, NamesPin, NamesMode}
-use Rattle.prog_map.specs.Lines.{AreLines}
+use Rattle.prog_map.specs.declared.error.ProgError.{ProgError}
+use Rattle.prog_map.specs.declared.error.ProgError.TheVariants.{BadLine, NoSuchSite, NoSuchChoice, TwiceSet, OutOfMemory}
+use Rattle.prog_map.specs.declared.setting.Setting.{Setting}
+use Rattle.prog_map.specs.Choices.{Choices, no_choices}
+use Rattle.prog_map.specs.Lines.{IsFirstLine, AreFirstLines}
+use Rattle.prog_map.specs.Sayings.{Saying, Says}
+use Rattle.prog_map.specs.Settings.{Names, LacksSite, LacksChoice, site_of, HasChoice, with_setting}
 
--- `INST MODE`, at a site that no earlier line sets
-pub record SetsMode (g : Graph) (words : List ℕ) (before after : Choices) : Type 0 where
-  pub instance : List ℕ
-  pub mode : List ℕ
-  pub spelled : words ≡ instance ++ 32 ∷ mode
-  pub pb : ℕ
-  pub number : ℕ
-  pub is_instance : NamesInstance g instance pb
-  pub is_mode : NamesMode g pb mode number
-  pub unset : mode_of before pb ≡ None
-  pub sets : after ≡ with_mode before pb number
-
--- the edge leads from the pin `source` to the pin `pin`, in a mode of its owner that has this name
-pub record IsEdgeNamed (g : Graph) (number pin : ℕ) (mode : List ℕ) (source : ℕ) (edge : Edge) : Type 0 where
-  pub is : slice_get g.edges number ≡ Some edge
-  pub ends : edge.dst.0 ≡ pin
-  pub starts : edge.src.0 ≡ source
-  pub is_mode : NamesMode g edge.owner.0 mode edge.mode
-
-pub record IsNamedEdge (g : Graph) (number pin : ℕ) (mode : List ℕ) (source : ℕ) : Type 0 where
-  pub edge : Edge
-  pub named : IsEdgeNamed g number pin mode source edge
-
--- `PIN MODE PIN`, at a site that no earlier line sets
-pub record SetsPin (g : Graph) (words : List ℕ) (before after : Choices) : Type 0 where
-  pub pin : List ℕ
-  pub mode : List ℕ
-  pub source : List ℕ
-  pub spelled : words ≡ pin ++ 32 ∷ (mode ++ 32 ∷ source)
-  pub number : ℕ
-  pub edge : Edge
-  pub is_pin : NamesPin g pin edge.dst.0
-  pub is_source : NamesPin g source edge.src.0
-  pub named : IsEdgeNamed g number edge.dst.0 mode edge.src.0 edge
-  pub unset : pick_of before edge.dst.0 edge.mode ≡ None
-  pub sets : after ≡ with_pick before edge.dst.0 edge.mode number
+-- the line sets a site that no earlier line sets
+pub record SetsSite (g : Graph) (line : List ℕ) (before after : Choices) : Type 0 where
+  pub saying : Saying
+  pub says : Says line saying
+  pub setting : Setting
+  pub names : Names g saying setting
+  pub unset : HasChoice before (site_of setting) → ⊥
+  pub sets : after ≡ with_setting before setting
 
 -- what a line does to the choices: an empty line nothing, any other sets one site
-pub data ReadsLine (g : Graph) : List ℕ → Choices → Choices → Type 0 where
-  passes : (before : Choices) → ReadsLine g [] before before
-  sets_mode : (words : List ℕ) (before after : Choices) → SetsMode g words before after → ReadsLine g (codes "mode " ++ words) before after
-  sets_pin : (words : List ℕ) (before after : Choices) → SetsPin g words before after → ReadsLine g (codes "pin " ++ words) before after
+abbrev pub ReadsLine : Graph → List ℕ → Choices → Choices → Type 0
+ReadsLine g line before after = ((line ≡ []) × (after ≡ before)) ⊎ SetsSite g line before after
 
 abbrev pub ReadsLines : Graph → List (List ℕ) → Choices → Choices → Type 0
 ReadsLines g [] before after = after ≡ before
@@ -58,5 +29,49 @@ ReadsLines g (line ∷ lines) before after = (next : Choices) × ReadsLine g lin
 -- the bytes spell the programming
 pub record SpellsProg (g : Graph) (bytes : List ℕ) (c : Choices) : Type 0 where
   pub lines : List (List ℕ)
-  pub are_lines : AreLines bytes lines
+  pub are_lines : AreFirstLines bytes lines []
   pub reads : ReadsLines g lines no_choices c
+
+-- why a line with this number names no site and choice, where `Said` tells what it says: it says
+-- nothing, or what it says lacks its site, or its choice
+abbrev pub Lacks : Graph → (Saying → Type 0) → ℕ → ProgError → Type 0
+Lacks g Said number (BadLine line) = (line ≡ number) × ((saying : Saying) → Said saying → ⊥)
+Lacks g Said number (NoSuchSite line) = (line ≡ number) × ((saying : Saying) × Said saying × LacksSite g saying)
+Lacks g Said number (NoSuchChoice line) = (line ≡ number) × ((saying : Saying) × Said saying × LacksChoice g saying)
+Lacks g Said number (TwiceSet line) = ⊥
+Lacks g Said number OutOfMemory = Unit {0}
+
+-- the line sets a site that an earlier line sets
+pub record SetsAgain (g : Graph) (line : List ℕ) (before : Choices) : Type 0 where
+  pub saying : Saying
+  pub says : Says line saying
+  pub setting : Setting
+  pub names : Names g saying setting
+  pub set : HasChoice before (site_of setting)
+
+-- why the line can't be read
+abbrev pub RefusesLine : Graph → List ℕ → Choices → ℕ → ProgError → Type 0
+RefusesLine g line before number (TwiceSet at) = (at ≡ number) × SetsAgain g line before
+RefusesLine g line before number e = Lacks g (Says line) number e
+
+-- lines are counted from 1, empty ones too; the count stands still at 2^32 - 1
+abbrev pub line_number : List (List ℕ) → ℕ
+line_number front = min (length front + 1) 4294967295
+
+-- the lines `front` are read, and the line behind them can't be
+pub record StopsAt (g : Graph) (bytes : List ℕ) (e : ProgError) : Type 0 where
+  pub front : List (List ℕ)
+  pub rest : List ℕ
+  pub are_first : AreFirstLines bytes front rest
+  pub before : Choices
+  pub reads : ReadsLines g front no_choices before
+  pub line : List ℕ
+  pub behind : List ℕ
+  pub is_line : IsFirstLine rest line behind
+  pub some : line ≢ []
+  pub refuses : RefusesLine g line before (line_number front) e
+
+-- the bytes spell no programming, and this says why
+abbrev pub Refuses : Graph → List ℕ → ProgError → Type 0
+Refuses g bytes OutOfMemory = Unit {0}
+Refuses g bytes e = StopsAt g bytes e

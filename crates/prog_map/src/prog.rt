@@ -1,30 +1,36 @@
-ghost use Rattle.std.specs.Prelude.{◌≡◌, ◌↔◌, Some, IsTrue, OnOk, OnErr, IfOk};
+ghost use Rattle.std.specs.Prelude.{◌≡◌, ◌↔◌, ℕ, Some, IsTrue, OnOk, OnErr, IfOk, MatchOption, true};
 ghost use Rattle.std.specs.Option.{option_map};
-ghost use Rattle.prog_map.specs.Choices.{no_choices, mode_of, pick_of, with_mode, with_pick, IsProgOf};
+ghost use Rattle.prog_map.specs.Choices.{no_choices, mode_of, pick_of, is_used, lut_of, with_mode, with_pick, with_used, with_lut, IsProgOf};
+ghost use Rattle.prog_map.specs.Settings.{HasChoice, with_setting};
 
+use crate::setting::Setting;
+use crate::{LSite, LutChoice};
 use pb_expand::{EdgeIx, PbGraph, PbIx, PinIx};
 use std::alloc::{AllocError, Global};
-use std::collections::BTreeMap;
+use std::collections::{BTreeMap, BTreeSet};
 use std::marker::Model;
 
 /// A programming of one block type: a finite map from its sites to choices. A site is the mode of
-/// an instance, or a pin in one mode, whose choice is an edge into it; a site without a choice is
-/// off.
+/// an instance, a pin in one mode, whose choice is an edge into it, the use of a leaf, or what a LUT
+/// holds; a site without a choice is off.
 #[derive(Drop)]
 pub struct Prog {
     modes: BTreeMap<u32, u32>,
     picks: BTreeMap<(u32, u32), u32>,
+    leaves: BTreeSet<u32>,
+    luts: BTreeMap<u32, LutChoice>,
 }
 
 impl Model for Prog {
-    ghost use Rattle.std.specs.FinMap as map;
     ghost use Rattle.prog_map.specs.Choices.{Choices, choices_code};
 
     ghost Value = { Choices };
 
     ghost coded = { choices_code };
 
-    ghost view = { λ p. record { modes = map.from_entries p.modes.entries; picks = map.from_entries p.picks.entries } };
+    ghost use Rattle.prog_map.specs.Stored.{choices_of};
+
+    ghost view = { choices_of };
 }
 
 impl Prog {
@@ -37,6 +43,8 @@ impl Prog {
         Ok(Prog {
             modes: BTreeMap::new(alloc),
             picks: BTreeMap::new(alloc),
+            leaves: BTreeSet::new(alloc),
+            luts: BTreeMap::new(alloc),
         })
     }
 
@@ -48,7 +56,7 @@ impl Prog {
     }
 
     /// Whether an instance is set to this mode.
-    pub fn is_set_to(&self, pb: PbIx, mode: u32) -> bool
+    pub(crate) fn is_set_to(&self, pb: PbIx, mode: u32) -> bool
         ensures { IsTrue result ↔ (mode_of self.now pb.0 ≡ Some mode) }
     {
         match self.mode_of(pb) {
@@ -67,8 +75,46 @@ impl Prog {
         }
     }
 
+    /// Whether a leaf is used.
+    pub fn used(&self, pb: PbIx) -> bool
+        ensures { result ≡ is_used self.now pb.0 }
+    {
+        self.leaves.contains(&pb.0)
+    }
+
+    /// What a LUT holds.
+    pub fn lut(&self, pb: PbIx) -> Option<&LutChoice>
+        ensures { option_map (λ choice. choice.now) result ≡ lut_of self.now pb.0 }
+    {
+        self.luts.get(&pb.0)
+    }
+
+    /// Whether a site has a choice.
+    pub(crate) fn is_set(&self, site: LSite) -> bool
+        ensures { IsTrue result ↔ HasChoice self.now site }
+    {
+        match site {
+            LSite::Mode(pb) => self.mode_of(pb).is_some(),
+            LSite::Pin(pin, mode) => self.edge_of(pin, mode).is_some(),
+            LSite::Used(pb) => self.used(pb),
+            LSite::Lut(pb) => self.lut(pb).is_some(),
+        }
+    }
+
+    /// The same programming once more, in memory of the same allocator.
+    pub fn copy(&self) -> Result<Prog, AllocError>
+        ensures { IfOk result (λ p. p ≡ self.now) }
+    {
+        Ok(Prog {
+            modes: self.modes.clone()?,
+            picks: self.picks.clone()?,
+            leaves: self.leaves.clone()?,
+            luts: self.luts.clone()?,
+        })
+    }
+
     /// Sets an instance to a mode.
-    pub fn set_mode(&mut self, pb: PbIx, mode: u32) -> Result<(), AllocError>
+    pub(crate) fn set_mode(&mut self, pb: PbIx, mode: u32) -> Result<(), AllocError>
         ensures ok { OnOk result (self.new ≡ with_mode self.old pb.0 mode) }
         ensures err { OnErr result (self.new ≡ self.old) }
     {
@@ -77,11 +123,42 @@ impl Prog {
     }
 
     /// Lets a pin take an edge in a mode.
-    pub fn set_edge(&mut self, pin: PinIx, mode: u32, edge: EdgeIx) -> Result<(), AllocError>
+    pub(crate) fn set_edge(&mut self, pin: PinIx, mode: u32, edge: EdgeIx) -> Result<(), AllocError>
         ensures ok { OnOk result (self.new ≡ with_pick self.old pin.0 mode edge.0) }
         ensures err { OnErr result (self.new ≡ self.old) }
     {
         self.picks.insert((pin.0, mode), edge.0)?;
         Ok(())
+    }
+
+    /// Uses a leaf.
+    pub(crate) fn set_used(&mut self, pb: PbIx) -> Result<(), AllocError>
+        ensures ok { OnOk result (self.new ≡ with_used self.old pb.0) }
+        ensures err { OnErr result (self.new ≡ self.old) }
+    {
+        self.leaves.insert(pb.0)?;
+        Ok(())
+    }
+
+    /// Lets a LUT hold a choice.
+    pub(crate) fn set_lut(&mut self, pb: PbIx, choice: LutChoice) -> Result<(), AllocError>
+        ensures ok { OnOk result (self.new ≡ with_lut self.old pb.0 choice) }
+        ensures err { OnErr result (self.new ≡ self.old) }
+    {
+        self.luts.insert(pb.0, choice)?;
+        Ok(())
+    }
+
+    /// Sets a site to its choice.
+    pub(crate) fn set(&mut self, setting: Setting) -> Result<(), AllocError>
+        ensures ok { OnOk result (self.new ≡ with_setting self.old setting) }
+        ensures err { OnErr result (self.new ≡ self.old) }
+    {
+        match setting {
+            Setting::Mode(pb, mode) => self.set_mode(pb, mode),
+            Setting::Pick(pin, mode, edge) => self.set_edge(pin, mode, edge),
+            Setting::Used(pb) => self.set_used(pb),
+            Setting::Lut(pb, choice) => self.set_lut(pb, choice),
+        }
     }
 }

@@ -1,155 +1,57 @@
-ghost use Rattle.std.specs.Prelude.{◌≡◌, ◌↔◌, IsTrue, IfOk, OnOk};
+ghost use Rattle.std.specs.Prelude.{◌≢◌, [], IfOk, IfErr, OnOk, OnErr};
 ghost use Rattle.prog_map.specs.Choices.{IsProgOf};
-ghost use Rattle.prog_map.specs.Text.{SpellsProg, ReadsLine, SetsMode, SetsPin};
+ghost use Rattle.prog_map.specs.Table.{IsFinderOf};
+ghost use Rattle.prog_map.specs.Text.{SpellsProg, ReadsLine, RefusesLine, Refuses};
 
-use crate::find::{Finder, find_edge, find_mode};
-use crate::{Prog, next_line};
+use crate::find::Finder;
+use crate::resolve::setting_of;
+use crate::{Prog, ProgError, next_line};
 use pb_expand::PbGraph;
-use std::alloc::{AllocError, AllocFailed, Global};
-use thiserror::Error;
-use vtr_base::cut;
+use std::alloc::Global;
 
-/// Why a programming was not read.
-#[derive(Clone, Copy, Debug, PartialEq, Eq, Drop, Error)]
-pub enum ProgError {
-    /// A line is of a form that is not read yet, or names no site or choice.
-    #[error("a line that is not read yet")]
-    NotBuilt,
-    #[error("out of memory")]
-    OutOfMemory,
-}
-
-impl<T: Drop> From<AllocFailed<T>> for ProgError {
-    ghost use Rattle.std.specs.Prelude.{◌≡◌};
-    ghost use Rattle.prog_map.specs.declared.read.ProgError.TheVariants.{OutOfMemory};
-
-    ghost from_gives = { λ _ e. e ≡ OutOfMemory };
-
-    fn from(_e: AllocFailed<T>) -> ProgError {
-        ProgError::OutOfMemory
-    }
-}
-
-impl From<AllocError> for ProgError {
-    ghost use Rattle.std.specs.Prelude.{◌≡◌};
-    ghost use Rattle.prog_map.specs.declared.read.ProgError.TheVariants.{OutOfMemory};
-
-    ghost from_gives = { λ _ e. e ≡ OutOfMemory };
-
-    fn from(_e: AllocError) -> ProgError {
-        ProgError::OutOfMemory
-    }
-}
-
-/// Reads a programming of the graph: one choice a line, `mode INST MODE` or `pin PIN MODE PIN`.
-/// Empty lines are passed over.
+/// Reads a programming of the graph: one choice a line, `mode INST MODE`, `pin PIN MODE PIN`,
+/// `used INST`, `lut INST wire K` or `lut INST table BITS`, its words divided by one blank. Empty
+/// lines are passed over. The first line that can't be read is told.
 pub fn read_prog(alloc: Global, bytes: &[u8], graph: &PbGraph) -> Result<Prog, ProgError>
     ensures of { IfOk result (λ p. IsProgOf graph.now p) }
     ensures spells { IfOk result (λ p. SpellsProg graph.now bytes.now p) }
+    ensures refused { IfErr result (Refuses graph.now bytes.now) }
 {
     let mut prog = Prog::empty(alloc, graph)?;
     let finder = Finder::new(alloc, graph)?;
     let mut rest = bytes;
+    let mut number: u32 = 0;
     while let Some((line, behind)) = next_line(rest) {
-        read_line(alloc, line, graph, &finder, &mut prog)?;
+        number = number.saturating_add(1);
+        read_line(alloc, line, number, graph, &finder, &mut prog)?;
         rest = behind;
     }
     Ok(prog)
 }
 
-/// Reads one line into the programming.
+/// Sets the site that a line names; an empty line names none. It is the line of that number.
 fn read_line(
     alloc: Global,
-    line: &[u8],
+    text: &[u8],
+    line: u32,
     graph: &PbGraph,
     finder: &Finder,
     prog: &mut Prog,
 ) -> Result<(), ProgError>
-    requires { IsProgOf graph.now prog.old }
+    requires of { IsProgOf graph.now prog.old }
+    requires finder { IsFinderOf graph.now finder.now }
     ensures of { OnOk result (IsProgOf graph.now prog.new) }
-    ensures reads { OnOk result (ReadsLine graph.now line.now prog.old prog.new) }
+    ensures reads { OnOk result (ReadsLine graph.now text.now prog.old prog.new) }
+    ensures some { OnErr result (text.now ≢ []) }
+    ensures refused { IfErr result (RefusesLine graph.now text.now prog.old line) }
 {
-    if line.is_empty() {
+    if text.is_empty() {
         return Ok(());
     }
-    let Some((keyword, words)) = cut(line, b' ') else {
-        return Err(ProgError::NotBuilt);
-    };
-    if is_word(keyword, b"mode") {
-        return read_mode(alloc, words, graph, finder, prog);
+    let setting = setting_of(alloc, text, line, graph, finder)?;
+    if prog.is_set(setting.site()) {
+        return Err(ProgError::TwiceSet { line });
     }
-    if is_word(keyword, b"pin") {
-        return read_pin(alloc, words, graph, finder, prog);
-    }
-    Err(ProgError::NotBuilt)
-}
-
-/// Whether the bytes are this word.
-fn is_word(bytes: &[u8], word: &[u8]) -> bool
-    ensures { IsTrue result ↔ (bytes.now ≡ word.now) }
-{
-    bytes == word
-}
-
-/// Reads `INST MODE`.
-fn read_mode(
-    alloc: Global,
-    words: &[u8],
-    graph: &PbGraph,
-    finder: &Finder,
-    prog: &mut Prog,
-) -> Result<(), ProgError>
-    requires { IsProgOf graph.now prog.old }
-    ensures of { OnOk result (IsProgOf graph.now prog.new) }
-    ensures sets { OnOk result (SetsMode graph.now words.now prog.old prog.new) }
-{
-    let Some((instance, mode)) = cut(words, b' ') else {
-        return Err(ProgError::NotBuilt);
-    };
-    let Some(pb) = finder.instance(alloc, graph, instance)? else {
-        return Err(ProgError::NotBuilt);
-    };
-    let Some(number) = find_mode(graph, pb, mode) else {
-        return Err(ProgError::NotBuilt);
-    };
-    if prog.mode_of(pb).is_some() {
-        return Err(ProgError::NotBuilt);
-    }
-    prog.set_mode(pb, number)?;
-    Ok(())
-}
-
-/// Reads `PIN MODE PIN`.
-fn read_pin(
-    alloc: Global,
-    words: &[u8],
-    graph: &PbGraph,
-    finder: &Finder,
-    prog: &mut Prog,
-) -> Result<(), ProgError>
-    requires { IsProgOf graph.now prog.old }
-    ensures of { OnOk result (IsProgOf graph.now prog.new) }
-    ensures sets { OnOk result (SetsPin graph.now words.now prog.old prog.new) }
-{
-    let Some((pin, rest)) = cut(words, b' ') else {
-        return Err(ProgError::NotBuilt);
-    };
-    let Some((mode, source)) = cut(rest, b' ') else {
-        return Err(ProgError::NotBuilt);
-    };
-    let Some(pin) = finder.pin(alloc, graph, pin)? else {
-        return Err(ProgError::NotBuilt);
-    };
-    let Some(source) = finder.pin(alloc, graph, source)? else {
-        return Err(ProgError::NotBuilt);
-    };
-    let Some(edge) = find_edge(graph, pin, mode, source) else {
-        return Err(ProgError::NotBuilt);
-    };
-    let in_mode = graph.edge(edge).mode;
-    if prog.edge_of(pin, in_mode).is_some() {
-        return Err(ProgError::NotBuilt);
-    }
-    prog.set_edge(pin, in_mode, edge)?;
+    prog.set(setting)?;
     Ok(())
 }

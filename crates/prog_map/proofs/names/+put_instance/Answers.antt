@@ -1,6 +1,5 @@
-use Rattle.std.proofs.Common.{◌≡◌, ◌++◌, ap, ◌∙◌, append_assoc, arith}
+use Rattle.std.proofs.Common.{arith}
 use Rattle.std.proofs.lemmas.Grind.{common_steps}
-use Rattle.prog_map.specs.Names.{step_text, instance_name}
 use Rattle.prog_map.proofs.Written.{mode_there, instance_is}
 use Rattle.prog_map.proofs.names.+put_instance.Goals as goal
 

@@ -1,4 +1,4 @@
-use Rattle.prog_map.proofs.Written.{port_inside, port_named}
+use Rattle.prog_map.proofs.Written.{port_inside}
 use Rattle.prog_map.proofs.names.port_name.Goals as goal
 
 pub bounds-ports-at : goal.bounds-ports-at

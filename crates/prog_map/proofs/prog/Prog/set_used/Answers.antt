@@ -1,0 +1,11 @@
+use Rattle.std.proofs.Common.{ap, ◌∙◌}
+use Rattle.std.specs.FinMap.{from_entries}
+use Rattle.prog_map.specs.Choices.{with_used, choices_at}
+use Rattle.prog_map.proofs.Maps.{member_added}
+use Rattle.prog_map.proofs.prog.Prog.set_used.Goals as goal
+
+pub returns-clause-ok : goal.returns-clause-ok
+returns-clause-ok c =
+    ap (λ m. choices_at (from_entries c.self.inside.modes.entries) (from_entries c.self.inside.picks.entries) m (from_entries c.self.inside.luts.entries))
+    (member_added c.self.inside.leaves c.insert.new.self c.args.pb.0 c.in_ok-insert.ensures.updates.0)
+    ∙ ap (λ v. with_used v c.args.pb.0) c.self.view_is

@@ -1,0 +1,34 @@
+ghost use Rattle.std.specs.Prelude.{◌≡◌, IfOk, IfErr};
+ghost use Rattle.prog_map.specs.Choices.{IsProgOf};
+ghost use Rattle.prog_map.specs.Laws.{SpellsOneProg, IsReadWhereSpelled, RefusesInOneWay};
+ghost use Rattle.prog_map.specs.Plain.{HasPlainNames};
+
+use crate::{Prog, ProgError, read_prog, write_prog};
+use pb_expand::PbGraph;
+use std::alloc::Global;
+
+/// The round trip: what a programming is read as when it has been written. Where the names of the
+/// block type are plain, it comes back, or memory runs out.
+pub fn read_back(alloc: Global, graph: &PbGraph, prog: &Prog) -> Result<Prog, ProgError>
+    requires { IsProgOf graph.now prog.now }
+    ensures of { IfOk result (IsProgOf graph.now) }
+    ensures same { HasPlainNames graph.now.root → IfOk result (λ p. p ≡ prog.now) }
+    ensures memory { HasPlainNames graph.now.root → IfErr result (λ e. e ≡ ProgError.OutOfMemory) }
+{
+    graph.law();
+    let mut text = Vec::new(alloc);
+    write_prog(&mut text, graph, prog)?;
+    read_prog(alloc, text.as_slice(), graph)
+}
+
+/// The laws of the text, where the names of the block type are plain, so that what `read_prog`
+/// promises of its answers decides each answer: a text spells at most one programming, one that
+/// spells a programming is refused by want of memory alone, and else it is refused in one way. It
+/// does nothing.
+pub fn laws_of_the_text(graph: &PbGraph)
+    ensures one { HasPlainNames graph.now.root → SpellsOneProg graph.now }
+    ensures read { HasPlainNames graph.now.root → IsReadWhereSpelled graph.now }
+    ensures refused { HasPlainNames graph.now.root → RefusesInOneWay graph.now }
+{
+    graph.law();
+}
