@@ -7,7 +7,7 @@ use Rattle.vtr_base.specs.Lists.{IsFirstPlace}
 use Rattle.vtr_base.specs.Outside.{Files}
 use Rattle.arch_types.specs.declared.arch.Arch.{Arch}
 use Rattle.arch_types.specs.declared.block.PbType.{PbType}
-use Rattle.arch_files.specs.FirstForm.{SpellsArch}
+use Rattle.arch_files.specs.Files.{SpellsArch}
 use Rattle.pb_expand.specs.Graph.{Graph}
 use Rattle.vtr_top.specs.Inputs.{Fetched, ReadsArch, AreGraphs, IsGraphOf, IsTextOf, names_of, IsTraced}
 
@@ -38,3 +38,6 @@ named_inside a blocks graphs block number are same named =
     let inside = slice_get_within (names_of blocks) number block named.there in
     let long : length (names_of blocks) ≡ length blocks = length-map blocks (λ (b : PbType). b.name) in
     omega (arith, inside, long, are.all, ap length same)
+
+pub reads_arch : (files : Option Files) (arch : List ℕ) (a : Arch) (bytes read : List ℕ) → Fetched files arch bytes → read ≡ bytes → SpellsArch read a → ReadsArch files arch a
+reads_arch files arch a bytes read fetched same spells = record { bytes = bytes; fetched = fetched; spells = subst (λ b. SpellsArch b a) same spells }

@@ -4,9 +4,11 @@ use Rattle.vtr_base.specs.Lists.{IsFirstPlace}
 use Rattle.vtr_base.specs.Outside.{Files, file, Told}
 use Rattle.arch_types.specs.declared.arch.Arch.{Arch}
 use Rattle.arch_types.specs.declared.block.PbType.{PbType}
-use Rattle.arch_files.specs.FirstForm.{SpellsArch}
+use Rattle.arch_files.specs.Files.{SpellsArch}
 use Rattle.pb_expand.specs.Graph.{Graph}
 use Rattle.pb_expand.specs.Expansion.{IsExpansion}
+use Rattle.pb_expand.specs.Refusals.{AreSound, IsTooLarge}
+use Rattle.pb_expand.specs.Types.{modes_in_tree}
 use Rattle.prog_map.specs.Choices.{Choices}
 use Rattle.prog_map.specs.Text.{SpellsProg}
 use Rattle.vtr_top.specs.Lines.{AreAnswers, leaf_inputs}
@@ -28,9 +30,15 @@ names_of blocks = map (λ block. block.name) blocks
 abbrev pub block_names : Arch → List (List ℕ)
 block_names a = names_of a.blocks
 
+-- a block type whose interconnects name pins rightly, and which isn't too large
+pub record IsExpandable (root : PbType) : Type 0 where
+  pub sound : AreSound (modes_in_tree root)
+  pub fits : IsTooLarge root → ⊥
+
 -- the graph of the block type of that number
 pub record IsGraphOf (a : Arch) (number : ℕ) (g : Graph) : Type 0 where
   pub root : slice_get a.blocks number ≡ Some g.root
+  pub expandable : IsExpandable g.root
   pub expansion : IsExpansion g
 
 -- the graphs of all block types, in their order

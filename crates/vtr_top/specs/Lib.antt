@@ -1,5 +1,6 @@
 pub mod Words
 pub mod Lines
 pub mod Inputs
+pub mod Refusals
 pub mod Stops
 pub mod Says

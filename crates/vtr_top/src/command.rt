@@ -1,8 +1,10 @@
 ghost use Rattle.std.specs.Prelude.{◌≡◌, IfOk, map, string_bytes};
-ghost use Rattle.vtr_top.specs.Says.{Says, Puts, Answers};
+ghost use Rattle.vtr_top.specs.Stops.{stop_text};
+ghost use Rattle.vtr_top.specs.Says.{Says, Puts, Answers, status_of};
 
 use crate::Status;
 use crate::print::{memory_line, stop_line, words_line};
+use crate::stop::Stop;
 use crate::trace::trace;
 use crate::words::{Command, read_words};
 use std::alloc::{AllocError, Global};
@@ -40,11 +42,8 @@ fn answer_of<S: Shelf>(alloc: Global, words: &[String], shelf: &mut S) -> Result
                 text,
             }),
             Err(stop) => {
-                let text = stop_line(alloc, stop)?;
-                Ok(Answer {
-                    status: stop.status(),
-                    text,
-                })
+                let Answer { status, text } = stopped(alloc, stop)?;
+                Ok(Answer { status, text })
             }
         },
         Err(place) => {
@@ -55,6 +54,18 @@ fn answer_of<S: Shelf>(alloc: Global, words: &[String], shelf: &mut S) -> Result
             })
         }
     }
+}
+
+/// The answer of a command that ended before its own.
+fn stopped(alloc: Global, stop: Stop) -> Result<Answer, AllocError>
+    ensures status { IfOk result (λ a. a.status ≡ status_of stop) }
+    ensures line { IfOk result (λ a. a.text.items ≡ stop_text stop) }
+{
+    let text = stop_line(alloc, &stop)?;
+    Ok(Answer {
+        status: stop.status(),
+        text,
+    })
 }
 
 /// Prints the text of a status.

@@ -1,8 +1,9 @@
-ghost use Rattle.std.specs.Prelude.{◌≡◌, ◌<◌, ◌+◌, ◌^◌, ◌++◌, [], ◌∷◌, IfOk, OnOk, codes};
+ghost use Rattle.std.specs.Prelude.{◌≡◌, ◌<◌, ◌+◌, ◌^◌, ◌++◌, [], ◌∷◌, IfOk, codes};
 ghost use Rattle.std.specs.Fmt.{decimal};
-ghost use Rattle.vtr_top.specs.Stops.{stop_text, refusal_text, form_text};
+ghost use Rattle.vtr_top.specs.Stops.{stop_text};
 
-use crate::stop::{Form, Refusal, Stop};
+use crate::refusal::put_refusal;
+use crate::stop::Stop;
 use std::alloc::{AllocError, Global};
 use vtr_base::put_number;
 
@@ -25,8 +26,8 @@ pub fn memory_line() -> &'static [u8]
 }
 
 /// The line that says why a command ended.
-pub fn stop_line(alloc: Global, stop: Stop<'_>) -> Result<Vec<u8>, AllocError>
-    ensures { IfOk result (λ text. text.items ≡ stop_text stop.entry) }
+pub fn stop_line(alloc: Global, stop: &Stop) -> Result<Vec<u8>, AllocError>
+    ensures { IfOk result (λ text. text.items ≡ stop_text stop.now) }
 {
     let mut text = Vec::new(alloc);
     match stop {
@@ -48,31 +49,4 @@ pub fn stop_line(alloc: Global, stop: Stop<'_>) -> Result<Vec<u8>, AllocError>
             Ok(text)
         }
     }
-}
-
-fn put_refusal(text: &mut Vec<u8>, refusal: Refusal<'_>) -> Result<(), AllocError>
-    ensures { OnOk result (text.new.items ≡ text.old.items ++ refusal_text refusal.entry) }
-{
-    match refusal {
-        Refusal::TooLong => text.extend_from_slice(b"4 TooLong"),
-        Refusal::NoBlockType { name } => put_two(text, b"5 NoBlockType ", name.as_bytes()),
-        Refusal::NotBuilt(form) => put_two(text, b"6 NotBuilt ", form_name(form)),
-        Refusal::Missing => text.extend_from_slice(b"7 Missing"),
-    }
-}
-
-fn form_name(form: Form) -> &'static [u8]
-    ensures { result.now ≡ form_text form }
-{
-    match form {
-        Form::Architecture => b"architecture",
-        Form::Programming => b"programming",
-    }
-}
-
-fn put_two(text: &mut Vec<u8>, one: &[u8], two: &[u8]) -> Result<(), AllocError>
-    ensures { OnOk result (text.new.items ≡ text.old.items ++ (one.now ++ two.now)) }
-{
-    text.extend_from_slice(one)?;
-    text.extend_from_slice(two)
 }

@@ -1,10 +1,12 @@
 use crate::run;
 use arch_files::read_arch;
+use arch_types::walk;
 use pb_expand::{EdgeIx, PbIx, PinIx, expand};
 use shelf_kit::{MemShelf, MemSink};
 use std::alloc::{AllocError, Global};
 use std::collections::BTreeMap;
 use std::test::Fail;
+use vtr_base::{Bits, put_number};
 
 const ONE: &str =
     "<architecture><complexblocklist><pb_type name=\"blk\">\n<input name=\"i\" num_pins=\"2\"/><output name=\"o\" num_pins=\"1\"/>\n<pb_type name=\"lut\" num_pb=\"1\" blif_model=\".names\" class=\"lut\">\n<input name=\"in\" num_pins=\"1\"/><output name=\"out\" num_pins=\"1\"/></pb_type>\n<interconnect><mux name=\"m\" input=\"blk.i[0] blk.i[1]\" output=\"lut.in\"/>\n<direct name=\"d\" input=\"lut.out\" output=\"blk.o\"/></interconnect>\n</pb_type></complexblocklist></architecture>\n";
@@ -27,7 +29,7 @@ fn shelf(alloc: Global, prog: Option<&str>, fails: &[u64]) -> Result<MemShelf, A
 }
 
 /// Runs the words, divided by spaces, and gives the exit status and what was printed.
-fn outcome(
+pub fn outcome(
     alloc: Global,
     words: &str,
     shelf: &mut MemShelf,
@@ -94,20 +96,26 @@ fn rows(rt: HostRuntime) -> Result<(), Fail> {
         (
             "trace one.xml blk p.txt",
             Some("used blk/default:lut[0]\n"),
-            3,
-            "p.txt: refused 6 NotBuilt programming\n",
+            0,
+            "blk/default:lut[0].in[0] open\n",
         ),
         (
             "trace one.xml blk p.txt",
             Some(twice),
             3,
-            "p.txt: refused 6 NotBuilt programming\n",
+            "p.txt: refused 54 TwiceSet 3\n",
         ),
         (
             "trace p.txt blk p.txt",
             Some(PICKED),
             3,
-            "p.txt: refused 6 NotBuilt architecture\n",
+            "p.txt: refused 1 Broken 1:1\n",
+        ),
+        (
+            "trace p.txt blk p.txt",
+            Some("<architecture><models/><tiles>\n<tile nam"),
+            3,
+            "p.txt: refused 1 Broken 2:10\n",
         ),
         ("", None, 2, "words 1\n"),
         ("make 3 a b c", None, 2, "words 1\n"),
@@ -173,5 +181,33 @@ fn graph_of_one_lut(rt: HostRuntime) -> Result<(), Fail> {
     assert_eq!(rt; graph.pin_of(PbIx(1), 1, 1), None);
     assert_eq!(rt; graph.edges(), 3);
     assert_eq!(rt; graph.mode_of_edge(EdgeIx(2)), (PbIx(0), 0));
+    Ok(())
+}
+
+#[test]
+fn preorder_of_one_lut(rt: HostRuntime) -> Result<(), Fail> {
+    let alloc = rt.alloc();
+    let arch = read_arch(alloc, ONE.as_bytes())?;
+    assert_eq!(rt; arch.blocks.len(), 1);
+    let blocks = walk(alloc, &arch.blocks.as_slice()[0])?;
+    assert_eq!(rt; blocks.len(), 2);
+    assert!(rt; blocks[0].name.is(b"blk"));
+    assert!(rt; blocks[1].name.is(b"lut"));
+    Ok(())
+}
+
+#[test]
+fn numbers_and_bits(rt: HostRuntime) -> Result<(), Fail> {
+    let alloc = rt.alloc();
+    let mut text = Vec::new(alloc);
+    put_number(&mut text, 18_446_744_073_709_551_615)?;
+    assert_eq!(rt; text.as_slice(), b"18446744073709551615".as_slice());
+    let mut bits = Bits::zeros(alloc, 3)?;
+    bits.put(1, true);
+    assert_eq!(rt;
+        (bits.get(0), bits.get(1), bits.get(2)),
+        (false, true, false)
+    );
+    assert_eq!(rt; bits.len(), 3);
     Ok(())
 }
