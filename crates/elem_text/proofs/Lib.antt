@@ -22,3 +22,6 @@ pub mod Written
 pub mod WrittenUtf8
 pub mod Parts
 pub mod Writable
+pub mod DecodedUtf8
+pub mod HeldUtf8
+pub mod HeldFew

@@ -9,4 +9,5 @@ pub mod Stack
 pub mod Flaws
 pub mod Refusals
 pub mod Laws
+pub mod Held
 pub mod Written

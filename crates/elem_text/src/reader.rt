@@ -1,5 +1,6 @@
-ghost use Rattle.std.specs.Prelude.{◌≡◌, ◌∷◌, ◌++◌, ◌<◌, ℕ, List, true, false, IfOk, IfErr, OnOk, IsErrOf, IsUtf8, MatchOption, length, drop};
+ghost use Rattle.std.specs.Prelude.{◌≡◌, ◌∷◌, ◌++◌, ◌<◌, ◌≤◌, ℕ, List, true, false, IfOk, IfErr, OnOk, IsErrOf, IsUtf8, MatchOption, length, drop};
 ghost use Rattle.elem_text.specs.Grammar.{IsFile, Spells, has_mark};
+ghost use Rattle.elem_text.specs.Held.{IsUtf8Elem, elements};
 ghost use Rattle.elem_text.specs.Lexed.{lexed, IsUtf8Lex};
 ghost use Rattle.elem_text.specs.Refusals.{IsTooDeep, DeepensFrom, Refuses, RefusesFrom, TellsFlaw, TellsRefusal};
 ghost use Rattle.elem_text.specs.Written.{IsWritable};
@@ -19,6 +20,8 @@ pub fn read_elems(alloc: Global, bytes: &[u8]) -> Result<Elem, ElemError>
     ensures found { IfOk result (λ e. Spells bytes.now e) }
     ensures shallow { OnOk result (IsTooDeep bytes.now → ⊥) }
     ensures writable { IfOk result (λ e. IsWritable e) }
+    ensures utf8 { IfOk result IsUtf8Elem }
+    ensures few { IfOk result (λ e. elements e ≤ length bytes.now) }
     ensures refused { IfErr result (λ e. Refuses bytes.now e) }
 {
     let Ok(_) = str::from_utf8(bytes) else {
