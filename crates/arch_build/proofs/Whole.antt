@@ -1,14 +1,16 @@
 -- What a file says, part by part.
 use Rattle.std.proofs.Common.{◌≡◌, List, ap, ◌∙◌}
-use Rattle.arch_types.specs.declared.arch.Arch.{Arch}
+use Rattle.arch_types.specs.declared.arch.ArchParts.{ArchParts}
 use Rattle.arch_types.specs.declared.arch.CellModel.{CellModel}
 use Rattle.arch_types.specs.declared.arch.Tile.{Tile}
 use Rattle.arch_types.specs.declared.arch.Layout.{Layout}
 use Rattle.arch_types.specs.declared.block.PbType.{PbType}
 use Rattle.elem_text.specs.declared.elem.Elem.{Elem}
-use Rattle.arch_build.specs.Said.{said_arch, said_models, said_blocks, said_tiles, said_layouts, model_names, block_names}
+use Rattle.arch_build.specs.Said.{said_arch, said_models, said_blocks, said_tiles, said_layouts}
+use Rattle.arch_types.specs.Models.{model_names}
+use Rattle.arch_types.specs.Tree.{block_names}
 
-abbrev arch_of : List CellModel → List Tile → List Layout → List PbType → Arch
+abbrev arch_of : List CellModel → List Tile → List Layout → List PbType → ArchParts
 arch_of models tiles layouts blocks = record { models = models; tiles = tiles; layouts = layouts; blocks = blocks }
 
 pub said_is : (root : Elem) (models models' : List CellModel) (blocks blocks' : List PbType) (tiles : List Tile) (layouts : List Layout) →

@@ -6,7 +6,7 @@ use Rattle.std.specs.Prelude.{ℕ, ℤ, max, if◌then◌else◌, List, [], ◌�
 use Rattle.std.specs.List.{flat_map}
 use Rattle.std.specs.Option.{option_map_or, option_and_then}
 use Rattle.std.specs.Str.{bytes_eq}
-use Rattle.arch_types.specs.declared.arch.Arch.{Arch}
+use Rattle.arch_types.specs.declared.arch.ArchParts.{ArchParts}
 use Rattle.arch_types.specs.declared.arch.CellModel.{CellModel}
 use Rattle.arch_types.specs.declared.arch.Tile.{Tile}
 use Rattle.arch_types.specs.declared.arch.Layout.{Layout}
@@ -23,6 +23,8 @@ use Rattle.arch_types.specs.declared.block.InterKind.{InterKind}
 use Rattle.arch_types.specs.declared.block.InterKind.TheVariants.{Direct, Complete, Mux}
 use Rattle.arch_types.specs.declared.block.Pattern.{Pattern}
 use Rattle.arch_types.specs.declared.block.Meta.{Meta}
+use Rattle.arch_types.specs.Tree.{block_names}
+use Rattle.arch_types.specs.Models.{model_names}
 use Rattle.elem_text.specs.declared.elem.Attr.{Attr}
 use Rattle.elem_text.specs.declared.elem.Elem.{Elem, Elem', Row_of-Elem, end_of-Elem, more_of-Elem, out-Elem}
 use Rattle.elem_attrs.specs.Attributes.{value_of, attr_of, has_tag}
@@ -234,13 +236,7 @@ said_layout e =
 abbrev pub said_layouts : Elem → List Layout
 said_layouts root = flat_map (within (codes "layout") said_layout) (inside root)
 
-abbrev pub model_names : List CellModel → List (List ℕ)
-model_names models = map (λ m. m.name) models
-
-abbrev pub block_names : List PbType → List (List ℕ)
-block_names blocks = map (λ b. b.name) blocks
-
-abbrev pub said_with : List CellModel → List PbType → Elem → Arch
+abbrev pub said_with : List CellModel → List PbType → Elem → ArchParts
 said_with models blocks root = record {
   models = models;
   tiles = said_tiles (block_names blocks) root;
@@ -249,5 +245,5 @@ said_with models blocks root = record {
 }
 
 -- what the file says
-abbrev pub said_arch : Elem → Arch
+abbrev pub said_arch : Elem → ArchParts
 said_arch root = said_with (said_models root) (said_blocks (model_names (said_models root)) root) root

@@ -1,4 +1,4 @@
-//! What the root element of an architecture file says, as an `Arch`. No rule of the format is
+//! What the root element of an architecture file says, as the parts of an architecture. No rule of the format is
 //! tested here.
 #![tactic(auto)]
 

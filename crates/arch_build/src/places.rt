@@ -1,7 +1,8 @@
 ghost use Rattle.std.specs.Option.{is_some};
 ghost use Rattle.std.specs.Prelude.{◌≡◌, ◌≤◌, ◌<◌, ◌^◌, IfOk, OnOk, length, map, take};
 ghost use Rattle.arch_build.specs.Places.{ArePlaces, found_place, place_of, AddsPlace};
-ghost use Rattle.arch_build.specs.Said.{model_names, block_names};
+ghost use Rattle.arch_types.specs.Models.{model_names};
+ghost use Rattle.arch_types.specs.Tree.{block_names};
 
 use arch_types::{CellModel, PbType};
 use std::alloc::{AllocError, Global};

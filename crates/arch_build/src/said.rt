@@ -1,12 +1,14 @@
 ghost use Rattle.std.specs.Prelude.{◌≡◌, map, IfOk};
-ghost use Rattle.arch_build.specs.Said.{said_arch, said_models, said_blocks, said_tiles, said_layouts, model_names, block_names};
+ghost use Rattle.arch_build.specs.Said.{said_arch, said_models, said_blocks, said_tiles, said_layouts};
+ghost use Rattle.arch_types.specs.Models.{model_names};
+ghost use Rattle.arch_types.specs.Tree.{block_names};
 
 use crate::block::push_list;
 use crate::layout::push_layouts;
 use crate::model::push_models;
 use crate::places::Places;
 use crate::tile::push_tiles;
-use arch_types::{Arch, CellModel, Layout, PbType, Tile};
+use arch_types::{ArchParts, CellModel, Layout, PbType, Tile};
 use elem_text::Elem;
 use sqlite_items::Items;
 use std::alloc::{AllocError, Global};
@@ -15,14 +17,14 @@ use std::alloc::{AllocError, Global};
 /// tiles, fixed layouts and block types, in file order. It tests no rule: an element that breaks
 /// one says something too. A site or a box whose block type or model isn't there has the number one
 /// past the last.
-pub fn arch_said(alloc: Global, root: &Elem) -> Result<Arch, AllocError>
+pub fn arch_said(alloc: Global, root: &Elem) -> Result<ArchParts, AllocError>
     ensures { IfOk result (λ a. a ≡ said_arch root.now) }
 {
     let models = models_in(alloc, root)?;
     let blocks = blocks_in(alloc, models.as_slice(), root)?;
     let tiles = tiles_in(alloc, blocks.as_slice(), root)?;
     let layouts = layouts_in(alloc, root)?;
-    Ok(Arch {
+    Ok(ArchParts {
         models,
         tiles,
         layouts,

@@ -1,4 +1,4 @@
-use crate::read_arch;
+use crate::{ArchError, read_arch};
 use arch_types::{Arch, Kind, PbType, walk};
 use std::alloc::{AllocError, Global};
 use std::test::Fail;
@@ -16,11 +16,19 @@ const TINY: &str =
 const ADORNED: &str =
     "<?xml version=\"1.0\"?>\n<!-- a comment -->\n<architecture><models/><switchlist><switch name=\"0\"/></switchlist><segmentlist/><device><x y='1'/></device><!-- > < --><tiles>\n<tile name=\"io\"><sub_tile name=\"io\" capacity=\"2\">\n<equivalent_sites><site pb_type=\"io\" pin_mapping=\"direct\"/></equivalent_sites>\n<output name=\"inpad\" num_pins=\"1\"/><input name=\"outpad\" num_pins=\"1\"/><fc in_type=\"frac\" in_val=\"1\"/><pinlocations pattern=\"custom\"><loc side=\"left\">x</loc><loc side=\"right\">x</loc><loc side=\"top\">x</loc><loc side=\"bottom\">x</loc></pinlocations></sub_tile></tile>\n<tile name=\"clb\"><sub_tile name=\"clb\" capacity=\"1\">\n<equivalent_sites><site pb_type=\"clb\" pin_mapping=\"direct\"/></equivalent_sites>\n<input name=\"I\" num_pins=\"2\"/><output name=\"O\" num_pins=\"1\"/>\n<clock name=\"clk\" num_pins=\"1\"/><fc in_type=\"frac\" in_val=\"1\"/><pinlocations pattern=\"custom\"><loc side=\"left\">x</loc><loc side=\"right\">x</loc><loc side=\"top\">x</loc><loc side=\"bottom\">x</loc></pinlocations></sub_tile></tile></tiles>\n<layout><fixed_layout name=\"t\" width=\"2\" height=\"1\">\n<single type=\"io\" x=\"0\" y=\"0\" priority=\"1\"><metadata>\n<meta name=\"fasm_prefix\">P0 P1</meta></metadata></single>\n<single type=\"clb\" x=\"1\" y=\"0\" priority=\"1\"><metadata>\n<meta name=\"fasm_prefix\">C</meta></metadata></single></fixed_layout></layout>\n<complexblocklist>\n<pb_type name=\"io\"><output name=\"inpad\" num_pins=\"1\"/><input name=\"outpad\" num_pins=\"1\"/>\n<mode name=\"inp\"><pb_type name=\"inpad\" blif_model=\".input\" num_pb=\"1\">\n<output name=\"inpad\" num_pins=\"1\"/></pb_type>\n<interconnect><direct name=\"a\" input=\"inpad.inpad\" output=\"io.inpad\"><delay_matrix type=\"max\">1</delay_matrix></direct></interconnect><power method='x'><y/></power>\n<metadata><meta name=\"fasm_features\">IN</meta></metadata></mode>\n<mode name=\"outp\"><pb_type name=\"outpad\" blif_model=\".output\" num_pb=\"1\">\n<input name=\"outpad\" num_pins=\"1\"/></pb_type>\n<interconnect><direct name=\"b\" input=\"io.outpad\" output=\"outpad.outpad\"><delay_matrix type=\"max\">1</delay_matrix></direct></interconnect><power method='x'><y/></power>\n<metadata><meta name=\"fasm_features\">OUT</meta></metadata></mode></pb_type>\n<pb_type name=\"clb\"><input name=\"I\" num_pins=\"2\"/><output name=\"O\" num_pins=\"1\"/>\n<clock name=\"clk\" num_pins=\"1\"/>\n<pb_type name=\"lut\" blif_model=\".names\" num_pb=\"1\" class=\"lut\">\n<input name=\"in\" num_pins=\"2\"/><output name=\"out\" num_pins=\"1\"/>\n<metadata><meta name=\"fasm_type\">LUT</meta><meta name=\"fasm_lut\">INIT[3:0]</meta></metadata></pb_type>\n<pb_type name=\"ff\" blif_model=\".latch\" num_pb=\"1\" class=\"flipflop\">\n<input name=\"D\" num_pins=\"1\"/><output name=\"Q\" num_pins=\"1\"/><clock name=\"clk\" num_pins=\"1\"/></pb_type>\n<interconnect>\n<mux name=\"m0\" input=\"clb.I[0] ff.Q\" output=\"lut.in[0]\"><delay_matrix type=\"max\">1e-9 2e-9</delay_matrix><metadata><meta name=\"fasm_mux\">\nclb.I[0] = NULL\nff.Q = FB0\n</meta></metadata></mux>\n<direct name=\"d1\" input=\"clb.I[1]\" output=\"lut.in[1]\"><delay_matrix type=\"max\">1e-9</delay_matrix></direct>\n<direct name=\"d2\" input=\"lut.out\" output=\"ff.D\"><delay_matrix type=\"max\">1e-9</delay_matrix></direct>\n<mux name=\"mo\" input=\"lut.out ff.Q\" output=\"clb.O\"><delay_matrix type=\"max\">1e-9 2e-9</delay_matrix><metadata><meta name=\"fasm_mux\">\nlut.out = NULL\nff.Q = FFOUT\n</meta></metadata></mux>\n<direct name=\"ck\" input=\"clb.clk\" output=\"ff.clk\"><delay_matrix type=\"max\">1e-9</delay_matrix></direct>\n</interconnect><power method='x'><y/></power></pb_type></complexblocklist></architecture>\n";
 
+/// The architecture of a sample, all of which are short.
+fn read(alloc: Global, text: &str) -> Result<Arch, ArchError> {
+    if text.len() > u32::MAX as usize {
+        return Err(ArchError::OutOfMemory);
+    }
+    read_arch(alloc, text.as_bytes())
+}
+
 #[test]
 fn what_is_not_read_changes_nothing(rt: HostRuntime) -> Result<(), Fail> {
     let alloc = rt.alloc();
-    let plain = read_arch(alloc, TINY.as_bytes())?;
-    let adorned = read_arch(alloc, ADORNED.as_bytes())?;
+    let plain = read(alloc, TINY)?;
+    let adorned = read(alloc, ADORNED)?;
     let one = format!(in alloc; "{plain:?}")?;
     let other = format!(in alloc; "{adorned:?}")?;
     assert_eq!(rt; plain.blocks.len(), 2);
@@ -103,7 +111,7 @@ fn what_the_samples_say(rt: HostRuntime) -> Result<(), Fail> {
         ),
     ];
     for (file, wanted) in rows {
-        let arch = read_arch(alloc, file.as_bytes())?;
+        let arch = read(alloc, file)?;
         let lines = lines_of(alloc, &arch)?;
         assert_eq!(rt; lines.as_str(), wanted);
     }

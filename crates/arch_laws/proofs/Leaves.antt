@@ -25,7 +25,7 @@ use Rattle.arch_rules.specs.Roles.{is_pb_type, counted}
 use Rattle.arch_rules.specs.Rules as rules
 use Rattle.arch_rules.specs.Rules.{IsShaped, IsLeaf, FitsModel, HasPorts, AreSingle, IsBoxOf, IsLutModel, IsUnsupported, Passes}
 use Rattle.arch_rules.specs.Walks.{IsFine}
-use Rattle.arch_laws.specs.Blocks.{HasOne, HasPin, HasNone, FitsKind, IsInPad, IsOutPad, IsLut, IsLatch}
+use Rattle.arch_types.specs.Blocks.{HasOne, HasPin, HasNone, FitsKind, IsInPad, IsOutPad, IsLut, IsLatch}
 use Rattle.arch_laws.proofs.Opened.{fits_in_pad, fits_out_pad, fits_lut, fits_latch, fits_cell, inside_in_pad, inside_out_pad, inside_lut, inside_latch, inside_cell}
 use Rattle.arch_laws.proofs.Ports.{word_of, port_with}
 use Rattle.arch_laws.proofs.Sides.{none_on, IsChild, IsOneOn, one_on}

@@ -1,4 +1,7 @@
 pub mod Lists
+pub mod Held
+pub mod HeldBlocks
+pub mod Listed
 pub mod Each
 pub mod Siblings
 pub mod Texts
@@ -12,8 +15,8 @@ pub mod Inters
 pub mod Trees
 pub mod Top
 pub mod BlockTypes
+pub mod Models
 pub mod Layouts
 pub mod Sites
 pub mod Tiles
 pub mod Whole
-pub mod Uses

@@ -8,9 +8,9 @@ use Rattle.arch_types.specs.declared.block.Mode.{Mode, roll-Mode, out-Mode}
 use Rattle.arch_types.specs.declared.block.Port.{Port}
 use Rattle.arch_types.specs.declared.block.Inter.{Inter}
 use Rattle.arch_types.specs.declared.block.Meta.{Meta}
-use Rattle.arch_types.specs.Tree.{name_of_mode, kids_of, inters_of}
+use Rattle.arch_types.specs.Tree.{name_of_mode, kids_of, inters_of, metas_of}
 use Rattle.arch_types.specs.Preorder.{inside}
-use Rattle.arch_laws.specs.Blocks.{FitsKind, AreModes, IsInPad, IsOutPad, IsLut, IsLatch}
+use Rattle.arch_types.specs.Blocks.{FitsKind, AreModes, IsInPad, IsOutPad, IsLut, IsLatch}
 
 module _ (models : ℕ) (name : List ℕ) (ports : List Port) where
   pub fits_in_pad : IsInPad ports → FitsKind models name ports kind.InPad
@@ -52,6 +52,10 @@ module _ (name : List ℕ) (kids : List PbType) (inters : List Inter) (metas : L
   pub inters_are : inters_of (mode_of name kids inters metas) ≡ inters
   unfolding out-Mode denote.Hole.Carrier.out
   inters_are = search (rules, the_lemmas)
+
+  pub metas_are : metas_of (mode_of name kids inters metas) ≡ metas
+  unfolding out-Mode denote.Hole.Carrier.out
+  metas_are = search (rules, the_lemmas)
 
 module _ where
   pub inside_in_pad : inside kind.InPad ≡ []

@@ -10,7 +10,7 @@ use Rattle.arch_rules.specs.Elements.{text_at}
 use Rattle.arch_rules.specs.Roles.{sort_of}
 use Rattle.arch_rules.specs.Rules.{Inside, role_at, IsAmong}
 use Rattle.arch_rules.specs.Walks.{AreFine, more, IsFineAt}
-use Rattle.arch_laws.specs.Words.{AreDifferent}
+use Rattle.arch_types.specs.Names.{AreDifferent}
 use Rattle.arch_laws.proofs.Lists.{pairs_nil}
 
 -- the element gives nothing, or one thing of this sort with its name

@@ -13,7 +13,7 @@ use Rattle.elem_text.specs.declared.elem.Elem.{Elem}
 use Rattle.elem_attrs.specs.Attributes.{has_tag}
 use Rattle.arch_build.specs.Said.{port_of, said_port}
 use Rattle.arch_rules.specs.Elements.{name_of, kids_of, is_named, how_many}
-use Rattle.arch_laws.specs.Blocks.{is_on, ports_on}
+use Rattle.arch_types.specs.Blocks.{is_on, ports_on}
 use Rattle.arch_laws.proofs.Lists.{map_append}
 use Rattle.arch_laws.proofs.Roles.{tag_is}
 use Rattle.arch_laws.proofs.Ports.{word_of, port_with}

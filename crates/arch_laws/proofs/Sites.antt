@@ -15,11 +15,12 @@ use Rattle.arch_types.specs.declared.block.Side.TheVariants.{Input, Output, Cloc
 use Rattle.elem_text.specs.declared.elem.Elem.{Elem, out-Elem}
 use Rattle.elem_attrs.specs.Attributes.{has_tag, attr_of}
 use Rattle.arch_build.specs.Places.{place_of}
-use Rattle.arch_build.specs.Said.{within, block_names, count_in, said_port, said_site, said_sub_tile, said_tile, said_tiles}
+use Rattle.arch_build.specs.Said.{within, count_in, said_port, said_site, said_sub_tile, said_tile, said_tiles}
+use Rattle.arch_types.specs.Tree.{block_names}
 use Rattle.arch_links.specs.First.{IsOfNone}
 use Rattle.arch_links.specs.Links.{IsLost, SiteOf, HasOtherPorts, sites_in, sites_of, site_name, sub_tile_sites, site_names}
 use Rattle.arch_rules.specs.Elements.{kids_of}
-use Rattle.arch_laws.specs.Tiles.{IsSite}
+use Rattle.arch_types.specs.Tiles.{IsSite}
 use Rattle.arch_laws.proofs.Lists.{flat_with, IsAt, at_inside}
 use Rattle.arch_laws.proofs.Leaves.{IsNotNot, place_inside}
 use Rattle.arch_laws.proofs.Known.{AreKnown, none_each}

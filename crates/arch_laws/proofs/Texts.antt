@@ -1,7 +1,9 @@
 -- Names and counts that attributes hold.
-use Rattle.std.proofs.Common.{◌≡◌, ◌≤◌, ◌<◌, ◌⊎◌, ◌&&◌, inl, inr, ℕ, zero, suc, Bool, true, false, List, [], ◌∷◌, Option, Some, None, codes, refl, sym, ◌∙◌, ap, subst, arith, max, if◌then◌else◌, nat_le}
+use Rattle.std.proofs.Common.{◌≡◌, ◌≤◌, ◌<◌, ◌^◌, ◌-◌, ◌==◌, ◌⊎◌, ◌&&◌, inl, inr, ℕ, zero, suc, Bool, true, false, List, [], ◌∷◌, Option, Some, None, codes, refl, sym, ◌∙◌, ap, subst, arith, max, if◌then◌else◌, nat_le}
+use Rattle.std.specs.Prelude.{ℤ, pos, negsuc, neg_ℤ, ◌≤ℤ◌}
 use Rattle.std.specs.List.{AllPass, list_all}
-use Rattle.std.specs.Option.{option_map_or, option_and_then}
+use Rattle.std.specs.Option.{option_map, option_map_or, option_and_then}
+use Rattle.std.proofs.lemmas.Int.{ints}
 use Rattle.std.proofs.lemmas.List.Sums.{AllPass-from_list_all, list_all-from_AllPass}
 use Rattle.std.proofs.lemmas.Bool.{false≢true, leb-true, ltb-true}
 use Rattle.std.specs.Char.{is_digit, digit_value}
@@ -11,16 +13,16 @@ use Rattle.vtr_base.specs.Spans.{is_dark}
 use Rattle.elem_text.specs.declared.elem.Attr.{Attr}
 use Rattle.elem_text.specs.declared.elem.Elem.{Elem, out-Elem}
 use Rattle.elem_attrs.specs.Attributes as said
-use Rattle.elem_attrs.specs.Numbers.{number_up_to, is_decimal, all_digits}
+use Rattle.elem_attrs.specs.Numbers.{number_up_to, signed_number, is_decimal, all_digits}
 use Rattle.arch_build.specs.Said.{count_of, count_in, small_in, zero_or}
 use Rattle.arch_rules.specs.declared.role.Role.{Role}
-use Rattle.arch_rules.specs.Names.{IsPlainName, IsDarkName, is_plain}
+use Rattle.arch_types.specs.Names.{IsPlainName, IsDarkName, is_plain}
 use Rattle.arch_rules.specs.Numbers.{SpellsNumber}
 use Rattle.arch_rules.specs.Elements.{value_of, attribute, text_or_none, text_at}
 use Rattle.arch_rules.specs.Roles.{required}
 use Rattle.arch_rules.specs.Rules.{MayName, IsUnread, IsFirstLacking}
 use Rattle.arch_rules.specs.Walks.{IsFine}
-use Rattle.arch_laws.specs.Words.{IsCount}
+use Rattle.arch_types.specs.Counts.{IsCount}
 
 -- both words for the value of an attribute say the same
 pub same_value : (attrs : List Attr) (name : List ℕ) → value_of attrs name ≡ said.value_of attrs name
@@ -159,3 +161,41 @@ zero_or_is attrs name = go (small_in attrs name) (small_is attrs name)
     go : (o : Option ℕ) → ((n : ℕ) → o ≡ Some n → n ≤ 4294967295) → zero_or o ≤ 4294967295
     go None fits = omega arith
     go (Some n) fits = fits n refl
+
+-- Numbers with a sign
+
+-- a number of the range of two's complement; the largest is `top`
+pub record IsBetween (top : ℕ) (z : ℤ) : Type 0 where
+  pub least : negsuc top ≤ℤ z
+  pub most : z ≤ℤ pos top
+
+not_negative : (most n : ℕ) → n ≤ most → IsBetween most (pos n)
+not_negative most n fits = record { least = omega (arith, ints, fits); most = omega (arith, ints, fits) }
+
+negative : (most n : ℕ) → n ≤ suc most → IsBetween most (neg_ℤ (pos n))
+negative most n fits = record { least = omega (arith, ints, fits); most = omega (arith, ints, fits) }
+
+-- what a number of digits becomes
+mapped : (most large : ℕ) (f : ℕ → ℤ) (text : List ℕ) (z : ℤ) → ((n : ℕ) → n ≤ large → IsBetween most (f n)) →
+    option_map f (number_up_to large text) ≡ Some z → IsBetween most z
+mapped most large f text z fits = go (number_up_to large text) refl
+  where
+    go : (o : Option ℕ) → number_up_to large text ≡ o → option_map f o ≡ Some z → IsBetween most z
+    go None is same = absurd (cc)
+    go (Some n) is same = let value : f n ≡ z = cc in subst (λ w. IsBetween most w) value (fits n (number_is large text n is).fits)
+
+signed_by : (most large : ℕ) → large ≤ suc most → (text digits : List ℕ) (z : ℤ) (t : Bool) →
+    (if t then option_map (λ n. neg_ℤ (pos n)) (number_up_to large digits) else option_map pos (number_up_to most text)) ≡ Some z → IsBetween most z
+signed_by most large wide text digits z true is = mapped most large (λ n. neg_ℤ (pos n)) digits z (λ n fits. negative most n (omega (arith, fits, wide))) is
+signed_by most large wide text digits z false is = mapped most most pos text z (not_negative most) is
+
+spelled_is : (text : List ℕ) (z : ℤ) → signed_number text ≡ Some z → IsBetween (2 ^ 63 - 1) z
+spelled_is [] z is = absurd (cc)
+spelled_is (b ∷ bs) z is = signed_by (2 ^ 63 - 1) (2 ^ 63) (omega arith) (b ∷ bs) bs z (b == 45) is
+
+pub signed_is : (attrs : List Attr) (name : List ℕ) (z : ℤ) → option_and_then signed_number (said.value_of attrs name) ≡ Some z → IsBetween (2 ^ 63 - 1) z
+signed_is attrs name z = go (said.value_of attrs name)
+  where
+    go : (o : Option (List ℕ)) → option_and_then signed_number o ≡ Some z → IsBetween (2 ^ 63 - 1) z
+    go None is = absurd (cc)
+    go (Some text) is = spelled_is text z is

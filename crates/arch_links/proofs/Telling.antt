@@ -1,6 +1,6 @@
 -- What an error tells of a part, told of the whole.
 use Rattle.std.proofs.Common.{◌≡◌, ◌<◌, ◌+◌, ◌∙◌, ℕ, List, ◌∷◌, ◌++◌, length, drop, suc, get_or, sym, ap, map, drop-cons, add-one}
-use Rattle.arch_types.specs.declared.arch.Arch.{Arch}
+use Rattle.arch_types.specs.declared.arch.ArchParts.{ArchParts}
 use Rattle.arch_types.specs.declared.arch.Tile.{Tile}
 use Rattle.arch_types.specs.declared.block.PbType.{PbType}
 use Rattle.elem_text.specs.declared.elem.Elem.{Elem}
@@ -25,7 +25,7 @@ tells_at blocks xs y rest OutOfMemory passed told = tt
 tells_at blocks xs y rest (NoSuchBlock name) passed told = absurd told
 tells_at blocks xs y rest (UnknownModel name) passed told = absurd told
 
-pub tells_file : (root : Elem) (a : Arch) (e : LinkError) → TellsFirstMisfit a.blocks (sites_of a.tiles) e → IsUnlinked root a e
+pub tells_file : (root : Elem) (a : ArchParts) (e : LinkError) → TellsFirstMisfit a.blocks (sites_of a.tiles) e → IsUnlinked root a e
 tells_file root a (SitePorts tile site) told = record {
   s = told.0;
   first = told.1;

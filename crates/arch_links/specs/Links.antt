@@ -5,13 +5,15 @@ use Rattle.std.specs.Borrow.{Bor}
 use Rattle.std.specs.List.{flat_map}
 use Rattle.std.specs.Option.{option_and_then}
 use Rattle.std.specs.Str.{bytes_eq}
-use Rattle.arch_types.specs.declared.arch.Arch.{Arch}
+use Rattle.arch_types.specs.declared.arch.ArchParts.{ArchParts}
 use Rattle.arch_types.specs.declared.arch.Tile.{Tile}
 use Rattle.arch_types.specs.declared.block.PbType.{PbType}
 use Rattle.elem_text.specs.declared.elem.Elem.{Elem, Elem', Row_of-Elem, end_of-Elem, more_of-Elem, out-Elem}
 use Rattle.elem_attrs.specs.Attributes.{value_of, attr_of, has_tag}
 use Rattle.arch_build.specs.Places.{found_place}
-use Rattle.arch_build.specs.Said.{inside, within, model_names, block_names}
+use Rattle.arch_build.specs.Said.{inside, within}
+use Rattle.arch_types.specs.Models.{model_names}
+use Rattle.arch_types.specs.Tree.{block_names}
 use Rattle.arch_links.specs.declared.error.LinkError.{LinkError}
 use Rattle.arch_links.specs.declared.error.LinkError.TheVariants.{SitePorts, NoSuchBlock, UnknownModel, OutOfMemory}
 use Rattle.arch_links.specs.First.{IsFirst, IsOfNone}
@@ -38,7 +40,7 @@ pub record HasOtherPorts (blocks : List PbType) (s : SiteOf) : Type 0 where
   pub other : is.ports ≡ s.tile.ports → ⊥
 
 -- the first such site, by the names of its tile and of its block type
-pub record IsFirstMisfit (a : Arch) (tile site : List ℕ) : Type 0 where
+pub record IsFirstMisfit (a : ArchParts) (tile site : List ℕ) : Type 0 where
   pub s : SiteOf
   pub first : IsFirst (HasOtherPorts a.blocks) (sites_of a.tiles) s
   pub is : PbType
@@ -101,13 +103,13 @@ models_used root = flat_map (within (codes "complexblocklist") block_models) (in
 -- The rules
 
 -- each site has its tile's ports, each site names a block type, and each box a model
-pub record AreLinked (root : Elem) (a : Arch) : Type 0 where
+pub record AreLinked (root : Elem) (a : ArchParts) : Type 0 where
   pub ports : IsOfNone (HasOtherPorts a.blocks) (sites_of a.tiles)
   pub blocks : IsOfNone (IsLost (block_names a.blocks)) (site_names root)
   pub models : IsOfNone (IsLost (model_names a.models)) (models_used root)
 
 -- the error tells the first of these rules that doesn't hold, with the first place at which it doesn't
-abbrev pub IsUnlinked : Elem → Arch → LinkError → Type 0
+abbrev pub IsUnlinked : Elem → ArchParts → LinkError → Type 0
 IsUnlinked root a (SitePorts tile site) = IsFirstMisfit a tile site
 IsUnlinked root a (NoSuchBlock name) = IsOfNone (HasOtherPorts a.blocks) (sites_of a.tiles) × IsFirst (IsLost (block_names a.blocks)) (site_names root) name
 IsUnlinked root a (UnknownModel name) =

@@ -1,20 +1,21 @@
 ghost use Rattle.std.specs.Prelude.{IfOk, IfErr, MatchOption};
 ghost use Rattle.arch_links.specs.First.{IsFirst, IsOfNone};
 ghost use Rattle.arch_links.specs.Links.{AreLinked, IsUnlinked, IsLost, site_names, models_used};
-ghost use Rattle.arch_build.specs.Said.{model_names, block_names};
+ghost use Rattle.arch_types.specs.Models.{model_names};
+ghost use Rattle.arch_types.specs.Tree.{block_names};
 
 use crate::LinkError;
 use crate::named::{first_lost, models_used, site_names};
 use crate::site::check_sites;
 use arch_build::Places;
-use arch_types::{Arch, CellModel, PbType};
+use arch_types::{ArchParts, CellModel, PbType};
 use elem_text::Elem;
 use std::alloc::{AllocError, Global};
 use vtr_base::Text;
 
 /// Tests the rules that tie an architecture file's parts together, in this order: the ports of
 /// sites, the names of sites, the names of models. `arch` is what the root element says.
-pub fn check_links(alloc: Global, root: &Elem, arch: &Arch) -> Result<(), LinkError>
+pub fn check_links(alloc: Global, root: &Elem, arch: &ArchParts) -> Result<(), LinkError>
     ensures linked { IfOk result (λ _. AreLinked root.now arch.now) }
     ensures refused { IfErr result (IsUnlinked root.now arch.now) }
 {

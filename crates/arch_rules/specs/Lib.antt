@@ -1,4 +1,3 @@
-pub mod Names
 pub mod Elements
 pub mod Numbers
 pub mod Forms

@@ -8,7 +8,7 @@ use Rattle.arch_rules.specs.declared.error.LimitKind.TheVariants.{Inputs, NumPin
 use Rattle.arch_rules.specs.declared.role.Role.{Role}
 use Rattle.arch_rules.specs.declared.role.Role.TheVariants as role
 use Rattle.arch_rules.specs.declared.role.Sort.{Sort}
-use Rattle.arch_rules.specs.Names.{IsPlainName, IsDarkName}
+use Rattle.arch_types.specs.Names.{IsPlainName, IsDarkName}
 use Rattle.arch_rules.specs.Elements.{name_of, kids_of, how_many, attribute, text_at, Lacks, Holds, HoldsOther}
 use Rattle.arch_rules.specs.Numbers.{IsCount, IsLarge, IsOverEight, IsOne, IsCoordinate, IsPriority}
 use Rattle.arch_rules.specs.Roles.{role_in, required, counted, sort_of, is_pb_type}

@@ -1,7 +1,7 @@
 ghost use Rattle.std.specs.Prelude.{◌≡◌, ◌↔◌, ℕ, List, map, IfOk, IsTrue};
 ghost use Rattle.std.specs.List.{AllPass};
 ghost use Rattle.vtr_base.specs.Spans.{is_white, is_dark};
-ghost use Rattle.arch_rules.specs.Names.{is_plain, IsPlainName, IsDarkName};
+ghost use Rattle.arch_types.specs.Names.{is_plain, IsPlainName, IsDarkName};
 
 fn is_white_byte(b: u8) -> bool
     ensures { result ≡ is_white b }

@@ -3,3 +3,4 @@ pub mod Once
 pub mod Preorder
 pub mod Numbered
 pub mod PreorderRows
+pub mod Uses

@@ -2,3 +2,9 @@ pub mod Tree
 pub mod Address
 pub mod Numbering
 pub mod Preorder
+pub mod Names
+pub mod Counts
+pub mod Models
+pub mod Blocks
+pub mod Tiles
+pub mod WellFormed

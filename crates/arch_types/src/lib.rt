@@ -6,7 +6,7 @@ mod arch;
 mod block;
 mod tree;
 
-pub use arch::{Arch, CellModel, Layout, Single, Tile};
+pub use arch::{Arch, ArchParts, CellModel, Layout, Single, Tile};
 pub use block::{AtomKind, Inter, InterKind, Kind, Meta, Mode, Pattern, PbType, Port, Side};
 pub use tree::walk;
 

@@ -4,7 +4,7 @@ ghost use Rattle.arch_types.specs.Tree.{modes_of, kids_of};
 ghost use Rattle.arch_types.specs.declared.block.Kind.TheVariants.{Lut, Latch};
 
 use crate::{
-    Arch, CellModel, Inter, InterKind, Kind, Layout, Meta, Mode, Pattern, PbType, Port, Side,
+    ArchParts, CellModel, Inter, InterKind, Kind, Layout, Meta, Mode, Pattern, PbType, Port, Side,
     Single, Tile,
 };
 use sqlite_items::Items;
@@ -120,7 +120,7 @@ fn an_architecture(rt: HostRuntime) -> Result<(), Fail> {
         height: 3,
         singles: Items::from_vec(vec![in alloc; single]?),
     };
-    let arch = Arch {
+    let arch = ArchParts {
         models: Items::from_vec(vec![in alloc; model]?),
         tiles: Items::from_vec(vec![in alloc; tile]?),
         layouts: Items::from_vec(vec![in alloc; layout]?),

@@ -10,5 +10,5 @@ returns-in_err-check_file-clause-refused c =
 pub returns-in_err-check_links-clause-refused : goal.returns-in_err-check_links-clause-refused
 returns-in_err-check_links-clause-refused c =
     let p = err_from_is_err_and c.from_residual-in_err-check_links.result c.from_residual-in_err-check_links.ensures.1 in
-    rw (p.1, p.2) (link_refused c.args.bytes.now c.in_ok-root.root c.in_ok-arch.arch c.in_err-check_links.field-0.0 c.in_ok-root.ensures.found
-    c.in_ok-check_file.ensures.fine c.in_ok-arch.ensures c.in_err-check_links.ensures.refused)
+    rw (p.1, p.2) (link_refused c.args.bytes.now c.in_ok-root.root c.in_ok-parts.parts c.in_err-check_links.field-0.0 c.in_ok-root.ensures.found
+    c.in_ok-check_file.ensures.fine c.in_ok-parts.ensures c.in_err-check_links.ensures.refused)

@@ -1,7 +1,7 @@
 -- From a block type that is well formed to the pb_types in it.
-use Rattle.std.proofs.Common.{◌≡◌, ◌<◌, ℕ, zero, suc, Bool, true, false, List, [], ◌∷◌, ◌++◌, Option, Some, None, refl, subst, map, slice_get, nat_lt, if◌then◌else◌}
+use Rattle.std.proofs.Common.{◌≡◌, ◌<◌, ℕ, zero, suc, Bool, true, false, List, [], ◌∷◌, ◌++◌, Option, Some, None, refl, subst, arith, map, slice_get, nat_lt, if◌then◌else◌}
 use Rattle.std.specs.Prelude.{option_and_then}
-use Rattle.std.specs.List.{All, flat_map}
+use Rattle.std.specs.List.{All, AllPairs, flat_map}
 use Rattle.std.proofs.lemmas.List.Elements.{All-nil, All-cons, All-head, All-tail}
 use Rattle.arch_types.specs.declared.block.PbType.{PbType}
 use Rattle.arch_types.specs.declared.block.Kind.{Kind, Modes', out-Kind}
@@ -12,9 +12,12 @@ use Rattle.arch_types.specs.Tree.{name_of_mode, modes_of, kids_of}
 use Rattle.arch_types.specs.Address.{Hop, Address, child_at, at}
 use Rattle.arch_types.specs.Preorder.{inside, inside_mode, preorder}
 use Rattle.arch_types.proofs.PreorderRows.{inside_is, inside_mode_is}
-use Rattle.arch_laws.specs.Blocks.{IsInPad, IsOutPad, IsLut, IsLatch, IsMode, FitsKind, IsPbType, IsTree}
-use Rattle.arch_laws.specs.Words.{AreDifferent}
-use Rattle.arch_laws.proofs.Lists.{pairs_nil}
+use Rattle.arch_types.specs.Blocks.{IsInPad, IsOutPad, IsLut, IsLatch, IsMode, FitsKind, IsPbType, IsTree}
+use Rattle.arch_types.specs.Names.{AreDifferent}
+use Rattle.arch_types.specs.Counts.{IsShort}
+
+pairs_nil : {X : Type 0} (R : X → X → Type 0) → AllPairs R []
+pairs_nil R i j d lt within = absurd (omega arith)
 
 pub all_get : {X : Type 0} (P : X → Type 0) (xs : List X) (i : ℕ) (x : X) → All P xs → slice_get xs i ≡ Some x → P x
 all_get P [] i x all is = absurd (cc)
@@ -105,8 +108,9 @@ module _ (models : ℕ) (name : List ℕ) (ports : List Port) where
   pub record KeptModes (modes : List Mode) : Type 0 where
     pub each : All (IsMode name) modes
     pub different : AreDifferent (map name_of_mode modes)
+    pub few : IsShort modes
 
   pub modes_kept : (k : Kind) → FitsKind models name ports k → KeptModes (modes_of k)
   unfolding out-Kind denote.Hole.Carrier.out
-  modes_kept (Modes' n modes) fits = record { each = fits.each; different = fits.different }
-  modes_kept _ fits = record { each = All-nil (IsMode name); different = pairs_nil (λ a b. (a ≡ b) → ⊥) }
+  modes_kept (Modes' n modes) fits = record { each = fits.each; different = fits.different; few = fits.few }
+  modes_kept _ fits = record { each = All-nil (IsMode name); different = pairs_nil (λ a b. (a ≡ b) → ⊥); few = omega arith }

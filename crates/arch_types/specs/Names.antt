@@ -1,6 +1,6 @@
 -- Names of architecture files.
 use Rattle.std.specs.Prelude.{◌≢◌, ◌==◌, ◌||◌, ℕ, Bool, not, List, []}
-use Rattle.std.specs.List.{AllPass}
+use Rattle.std.specs.List.{AllPass, AllPairs}
 use Rattle.vtr_base.specs.Spans.{is_white, is_dark}
 
 -- white space, or one of / : . [ ] { } = # , \ "
@@ -21,3 +21,7 @@ pub record IsPlainName (name : List ℕ) : Type 0 where
 pub record IsDarkName (name : List ℕ) : Type 0 where
   pub some : name ≢ []
   pub dark : AllPass is_dark name
+
+-- no two of the names are equal
+abbrev pub AreDifferent : List (List ℕ) → Type 0
+AreDifferent names = AllPairs (λ a b. a ≢ b) names

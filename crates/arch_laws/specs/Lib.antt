@@ -1,4 +1,0 @@
-pub mod Words
-pub mod Blocks
-pub mod Tiles
-pub mod WellFormed
