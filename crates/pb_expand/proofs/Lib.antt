@@ -4,6 +4,7 @@ pub mod RowLemmas
 pub mod Insides
 pub mod Blocks
 pub mod Grows
+pub mod Copies
 pub mod EndLemmas
 pub mod Fills
 pub mod PinLemmas
@@ -19,6 +20,7 @@ pub mod PinsThere
 pub mod PinPlaces
 pub mod Excess
 pub mod ModeLists
+pub mod KeptModes
 pub mod Counts
 pub mod Verdicts
 pub mod Parts

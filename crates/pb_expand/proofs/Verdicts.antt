@@ -109,11 +109,6 @@ pub excess_told : {T : Type 0} (root : PbType) (e : SizeError) (r : Result T Siz
 excess_told root size.TooMany r is sound large = (sound, large is)
 excess_told root size.OutOfMemory r is sound large = tt
 
--- what holds of the copy of a block type holds of the block type
-pub at_root : (blocks : List PbType) (n : ℕ) (copy : PbType) (e : ExpandError) → slice_get blocks n ≡ Some copy → IsRefusal copy e → (root : PbType) →
-    slice_get blocks n ≡ Some root → IsRefusal root e
-at_root blocks n copy e is told root at_n = let same : copy ≡ root = cc in subst (λ (b : PbType). IsRefusal b e) same told
-
 pub or_edges : (root : PbType) → (1048576 < length (instances_of root)) ⊎ (1048576 < length (pins_of root)) → IsTooLarge root
 or_edges root (inl many) = inl many
 or_edges root (inr many) = inr (inl many)

@@ -1,5 +1,6 @@
 -- What the parts of a graph are while it is made.
 use Rattle.std.specs.Prelude.{◌≡◌, ◌≤◌, ◌<◌, ◌+◌, ◌^◌, ◌⊎◌, ℕ, List, [], ◌∷◌, ◌++◌, Option, Some, None, Vec, length, slice_get}
+use Rattle.std.specs.declared.alloc.Global.{Global}
 use Rattle.vtr_base.specs.Lists.{Has}
 use Rattle.arch_types.specs.declared.block.PbType.{PbType}
 use Rattle.arch_types.specs.declared.block.Mode.{Mode}
@@ -14,6 +15,7 @@ use Rattle.pb_expand.specs.declared.number.Step.{Step}
 use Rattle.pb_expand.specs.declared.number.PinAt.{PinAt}
 use Rattle.pb_expand.specs.declared.number.Edge.{Edge}
 use Rattle.pb_expand.specs.declared.number.PbIx.{PbIx}
+use Rattle.pb_expand.specs.declared.edges.ModeEdges.{ModeEdges}
 use Rattle.pb_expand.specs.Graph.{pin_ix, pb_ix, pin_at, pins_of_ports, step_from, hop_of}
 use Rattle.pb_expand.specs.Expansion.{owner_address, IsNotAfter}
 use Rattle.pb_expand.specs.Rows.{addresses, IsTree}
@@ -138,19 +140,26 @@ pub record HavePlaces (rows : List Step) (pins : List PinAt) (owner mode : ℕ) 
   pub src : (k : ℕ) (l : LocalEdge) → slice_get local k ≡ Some l → HasPlace rows pins owner mode l.src
   pub dst : (k : ℕ) (l : LocalEdge) → slice_get local k ≡ Some l → HasPlace rows pins owner mode l.dst
 
--- the edges of each mode of a pb_type
-pub record AreModeEdges {A : Type 0} (block : PbType) (lists : List (Vec LocalEdge A)) : Type 0 where
-  pub all : length lists ≡ length (modes_of block.kind)
-  pub each : (m : ℕ) (mode : Mode) (local : Vec LocalEdge A) → slice_get (modes_of block.kind) m ≡ Some mode → slice_get lists m ≡ Some local →
-      AreEdges block mode local.items
+-- the modes of a pb_type before number `end` that have edges, in turn, each with its edges
+pub record AreModeEdges (block : PbType) (end : ℕ) (kept : List ModeEdges) : Type 0 where
+  pub each : (k : ℕ) (one : ModeEdges) → slice_get kept k ≡ Some one → (mode : Mode) × (slice_get (modes_of block.kind) one.mode ≡ Some mode) × AreEdges block mode one.edges.items
+  pub before : (k : ℕ) (one : ModeEdges) → slice_get kept k ≡ Some one → one.mode < end
+  pub some : (k : ℕ) (one : ModeEdges) → slice_get kept k ≡ Some one → 0 < length one.edges.items
+  pub ascend : (i j : ℕ) (a b : ModeEdges) → i < j → slice_get kept i ≡ Some a → slice_get kept j ≡ Some b → a.mode < b.mode
+  -- a mode that isn't kept has no edges
+  pub rest : (m : ℕ) (mode : Mode) → m < end → slice_get (modes_of block.kind) m ≡ Some mode → ((k : ℕ) (one : ModeEdges) → slice_get kept k ≡ Some one → one.mode ≡ m → ⊥) → AreEdges block mode []
 
--- the edges of the modes of the instance of number n
-abbrev pub AreModeEdgesOf : {A : Type 0} → List PbType → ℕ → List (Vec LocalEdge A) → Type 0
-AreModeEdgesOf blocks n lists = (block : PbType) → slice_get blocks n ≡ Some block → AreModeEdges block lists
+-- the edges of all modes of the instance of number n
+abbrev pub AreModeEdgesOf : List PbType → ℕ → List ModeEdges → Type 0
+AreModeEdgesOf blocks n kept = (block : PbType) → slice_get blocks n ≡ Some block → AreModeEdges block (length (modes_of block.kind)) kept
 
 -- the edges of the modes of each instance that stands for itself
-abbrev pub HaveModeEdges : {A : Type 0} → List PbType → List PbIx → List (Vec (Vec LocalEdge A) A) → Type 0
-HaveModeEdges {A} blocks firsts lists = (n : ℕ) (made : Vec (Vec LocalEdge A) A) → slice_get firsts n ≡ Some (pb_ix n) → slice_get lists n ≡ Some made → AreModeEdgesOf blocks n made.items
+abbrev pub HaveModeEdges : {A : Type 0} → List PbType → List PbIx → List (Vec ModeEdges A) → Type 0
+HaveModeEdges {A} blocks firsts lists = (n : ℕ) (made : Vec ModeEdges A) → slice_get firsts n ≡ Some (pb_ix n) → slice_get lists n ≡ Some made → AreModeEdgesOf blocks n made.items
+
+-- one more mode's edges are kept, where there are some
+abbrev pub Keeps : List ModeEdges → ℕ → Vec LocalEdge Global → List ModeEdges → Type 0
+Keeps old mode edges new = ((edges.items ≡ []) × (new ≡ old)) ⊎ ((0 < length edges.items) × (new ≡ old ++ record { mode = mode; edges = edges } ∷ []))
 
 -- what is known of the instances and the pins before the edges are made
 pub record AreParts (blocks : List PbType) (rows : List Step) (pins : List PinAt) : Type 0 where

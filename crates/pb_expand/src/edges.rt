@@ -4,7 +4,7 @@ ghost use Rattle.mode_edges.specs.Edges.{AreEdges, HasMoreEdges};
 ghost use Rattle.mode_edges.specs.Faults.{IsSound};
 ghost use Rattle.pb_expand.specs.Graph.{pin_at};
 ghost use Rattle.pb_expand.specs.Rows.{addresses, IsTree};
-ghost use Rattle.pb_expand.specs.Making.{AreBefore, AddsPlaced, Stands, StandFor, AreParts, AreMore, HaveModeEdges, AreModeEdgesOf, HavePlaces, HasPlace, IsOwner};
+ghost use Rattle.pb_expand.specs.Making.{AreBefore, AddsPlaced, Stands, StandFor, AreParts, AreMore, HaveModeEdges, AreModeEdgesOf, Keeps, HavePlaces, HasPlace, IsOwner};
 ghost use Rattle.pb_expand.specs.declared.error.SizeError.{SizeError};
 
 use crate::error::SizeError;
@@ -17,6 +17,13 @@ use mode_edges::{ChildAt, LocalEdge, LocalPin, edges_of_mode};
 use std::alloc::{AllocError, Global};
 
 const MOST_EDGES: usize = 4194304;
+
+/// The edges of a mode that has some, kept for all instances of its pb_type.
+#[derive(Drop)]
+struct ModeEdges {
+    mode: u32,
+    edges: Vec<LocalEdge>,
+}
 
 /// The edges of all instances in all their modes.
 pub(crate) fn edges_of(alloc: Global, places: &Places) -> Result<Vec<Edge>, SizeError>
@@ -48,9 +55,9 @@ fn push_owner(
     alloc: Global,
     edges: &mut Vec<Edge>,
     places: &Places,
-    lists: &[Vec<Vec<LocalEdge>>],
+    lists: &[Vec<ModeEdges>],
     owner: PbIx,
-) -> Result<Vec<Vec<LocalEdge>>, SizeError>
+) -> Result<Vec<ModeEdges>, SizeError>
     requires parts { AreParts (map (λ b. b.now) places.now.blocks.items) places.now.rows.keys places.now.pins.keys }
     requires firsts { StandFor (map (λ b. b.now) places.now.blocks.items) places.now.firsts.items }
     requires all_firsts { length places.now.firsts.items ≡ length places.now.blocks.items }
@@ -72,13 +79,13 @@ fn push_owner(
     Ok(Vec::new(alloc))
 }
 
-/// Adds the edges of an instance in all its modes, and gives back the edges of each mode.
+/// Adds the edges of an instance in all its modes, and gives back those of each mode that has some.
 fn push_new(
     alloc: Global,
     edges: &mut Vec<Edge>,
     places: &Places,
     owner: PbIx,
-) -> Result<Vec<Vec<LocalEdge>>, SizeError>
+) -> Result<Vec<ModeEdges>, SizeError>
     requires parts { AreParts (map (λ b. b.now) places.now.blocks.items) places.now.rows.keys places.now.pins.keys }
     requires there { owner.0 < length places.now.blocks.items }
     requires before { AreBefore (map (λ b. b.now) places.now.blocks.items) (addresses places.now.rows.keys) places.now.pins.keys owner.0 0 edges.old.items }
@@ -89,36 +96,49 @@ fn push_new(
     ensures many { IsErrOf result SizeError.TooMany → AreMore (map (λ b. b.now) places.now.blocks.items) (addresses places.now.rows.keys) places.now.pins.keys 4194304 }
 {
     let block: &PbType = places.blocks[owner.0 as usize];
-    let mut lists = Vec::new(alloc);
+    let mut kept = Vec::new(alloc);
     for (mode, is) in modes_in(block).iter().enumerate() {
+        let number = mode as u32;
         let local = local_edges(alloc, block, is, MOST_EDGES - edges.len())?;
-        push_local(edges, places, owner, mode as u32, local.as_slice())?;
-        lists.push(local)?;
+        push_local(edges, places, owner, number, local.as_slice())?;
+        keep(&mut kept, number, local)?;
     }
-    Ok(lists)
+    Ok(kept)
 }
 
-/// Adds the edges of an instance in all its modes, of which the edges of each are known.
+/// Keeps the edges of one more mode, where it has some.
+fn keep(kept: &mut Vec<ModeEdges>, mode: u32, edges: Vec<LocalEdge>) -> Result<(), AllocError>
+    ensures { OnOk result (Keeps kept.old.items mode edges kept.new.items) }
+{
+    if edges.is_empty() {
+        return Ok(());
+    }
+    kept.push(ModeEdges { mode, edges })?;
+    Ok(())
+}
+
+/// Adds the edges of an instance in all its modes, where those of each mode that has some are
+/// known.
 fn push_known(
     edges: &mut Vec<Edge>,
     places: &Places,
     owner: PbIx,
-    lists: &[Vec<LocalEdge>],
+    kept: &[ModeEdges],
 ) -> Result<(), SizeError>
     requires parts { AreParts (map (λ b. b.now) places.now.blocks.items) places.now.rows.keys places.now.pins.keys }
     requires there { owner.0 < length places.now.blocks.items }
     requires before { AreBefore (map (λ b. b.now) places.now.blocks.items) (addresses places.now.rows.keys) places.now.pins.keys owner.0 0 edges.old.items }
     requires few { length edges.old.items ≤ 4194304 }
-    requires lists { AreModeEdgesOf (map (λ b. b.now) places.now.blocks.items) owner.0 lists.now }
+    requires kept { AreModeEdgesOf (map (λ b. b.now) places.now.blocks.items) owner.0 kept.now }
     ensures edges { OnOk result (AreBefore (map (λ b. b.now) places.now.blocks.items) (addresses places.now.rows.keys) places.now.pins.keys (owner.0 + 1) 0 edges.new.items) }
     ensures few { OnOk result (length edges.new.items ≤ 4194304) }
     ensures many { IsErrOf result SizeError.TooMany → AreMore (map (λ b. b.now) places.now.blocks.items) (addresses places.now.rows.keys) places.now.pins.keys 4194304 }
 {
-    for (mode, local) in lists.iter().enumerate() {
-        if local.len() > MOST_EDGES - edges.len() {
+    for known in kept {
+        if known.edges.len() > MOST_EDGES - edges.len() {
             return Err(SizeError::TooMany);
         }
-        push_local(edges, places, owner, mode as u32, local.as_slice())?;
+        push_local(edges, places, owner, known.mode, known.edges.as_slice())?;
     }
     Ok(())
 }

@@ -1,4 +1,4 @@
-ghost use Rattle.std.specs.Prelude.{◌≡◌, ◌<◌, ◌^◌, ◌↔◌, ℕ, Some, IsNone, IsSome, IfSome, IfOk, IfErr, MatchOption, length, slice_get};
+ghost use Rattle.std.specs.Prelude.{◌≡◌, ◌≤◌, ◌<◌, ◌^◌, ◌↔◌, ℕ, Some, IsNone, IsSome, IfSome, IfOk, IfErr, MatchOption, length, slice_get};
 ghost use Rattle.std.specs.Option.{option_map};
 ghost use Rattle.arch_types.specs.Tree.{modes_of, name_of_mode};
 ghost use Rattle.arch_types.specs.Address.{child_at};
@@ -36,6 +36,8 @@ pub struct PbGraph {
     pins: IndexSet<PinAt>,
     edges: Vec<Edge>,
     into: HashMap<End, Items<EdgeIx>>,
+    /// For each instance the first one of its pb_type.
+    firsts: Vec<PbIx>,
 }
 
 impl Model for PbGraph {
@@ -190,6 +192,17 @@ impl PbGraph {
         }
     }
 
+    /// An instance of the same pb_type: the first of them, for all instances of the pb_type. What
+    /// isn't said of it, but meant, is that it is the first; whoever keeps something per pb_type
+    /// keeps it there.
+    pub fn first_like(&self, pb: PbIx) -> PbIx
+        requires { pb.0 < length self.now.instances }
+        ensures before { result.0 ≤ pb.0 }
+        ensures same { block_at self.now result.0 ≡ block_at self.now pb.0 }
+    {
+        self.firsts[pb.0 as usize]
+    }
+
     /// What an instance is.
     pub fn kind(&self, pb: PbIx) -> PbKind
         requires { pb.0 < length self.now.instances }
@@ -244,19 +257,32 @@ pub fn expand(alloc: Global, arch: &Arch, block: u32) -> Result<PbGraph, ExpandE
     ensures fits { IfOk result (λ g. IsTooLarge g.root → ⊥) }
     ensures refused { IfErr result (λ e. (root : PbType) → slice_get arch.now.blocks block ≡ Some root → IsRefusal root e) }
 {
-    let root = copy_block(alloc, &arch.blocks.as_slice()[block as usize])?;
-    check_tree(alloc, &root)?;
-    let places = places_of(alloc, &root)?;
+    graph_of(alloc, &arch.blocks.as_slice()[block as usize], block)
+}
+
+/// A block type as a graph, which has this number in its architecture. What is told of one that
+/// isn't expanded is as for `expand`.
+pub fn graph_of(alloc: Global, root: &PbType, block: u32) -> Result<PbGraph, ExpandError>
+    ensures block { IfOk result (λ g. g.block ≡ block) }
+    ensures root { IfOk result (λ g. g.root ≡ root.now) }
+    ensures sound { IfOk result (λ g. AreSound (modes_in_tree g.root)) }
+    ensures fits { IfOk result (λ g. IsTooLarge g.root → ⊥) }
+    ensures refused { IfErr result (IsRefusal root.now) }
+{
+    let copy = copy_block(alloc, root)?;
+    check_tree(alloc, &copy)?;
+    let places = places_of(alloc, &copy)?;
     let edges = edges_of(alloc, &places)?;
     let into = ends_of(alloc, edges.as_slice())?;
-    let (rows, pins) = places.into_sets();
+    let (rows, pins, firsts) = places.into_parts();
     Ok(PbGraph {
         block,
-        root,
+        root: copy,
         rows,
         pins,
         edges,
         into,
+        firsts,
     })
 }
 

@@ -13,5 +13,5 @@ mod places;
 mod rows;
 
 pub use error::ExpandError;
-pub use graph::{PbGraph, expand};
+pub use graph::{PbGraph, expand, graph_of};
 pub use number::{Edge, EdgeIx, PbIx, PbKind, PinAt, PinIx, Step};

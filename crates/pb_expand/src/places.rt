@@ -28,17 +28,18 @@ pub(crate) struct Places<'a> {
 }
 
 impl Places<'_> {
-    /// The instances and the pins, without the pb_types that they were made from.
-    pub fn into_sets(self) -> (IndexSet<Step>, IndexSet<PinAt>)
-        ensures { result ≡ (self.entry.rows, self.entry.pins) }
+    /// The instances, the pins and the first instances, without the pb_types that they were made
+    /// from.
+    pub fn into_parts(self) -> (IndexSet<Step>, IndexSet<PinAt>, Vec<PbIx>)
+        ensures { result ≡ (self.entry.rows, self.entry.pins, self.entry.firsts) }
     {
         let Places {
             blocks: _,
-            firsts: _,
+            firsts,
             rows,
             pins,
         } = self;
-        (rows, pins)
+        (rows, pins, firsts)
     }
 }
 

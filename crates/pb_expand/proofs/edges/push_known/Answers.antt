@@ -1,69 +1,67 @@
 use Rattle.std.proofs.Common.{◌+◌, ◌<◌, map, length, refl, sym, subst, arith}
-use Rattle.std.proofs.lemmas.Option.{slice_get_read, slice_get_within}
+use Rattle.std.proofs.lemmas.Option.{slice_get_read}
+use Rattle.std.proofs.lemmas.List.{length-map}
 use Rattle.pb_expand.specs.Rows.{addresses}
 use Rattle.pb_expand.specs.Making.{AddsPlaced, HavePlaces}
 use Rattle.pb_expand.proofs.Lists.{element}
-use Rattle.std.proofs.lemmas.List.{length-map}
-use Rattle.pb_expand.proofs.Batch.{batch}
-use Rattle.pb_expand.proofs.EdgeList.{mode_ends}
 use Rattle.pb_expand.proofs.Excess.{too_many, adds_length}
-use Rattle.pb_expand.proofs.ModeLists.{is_known}
+use Rattle.pb_expand.proofs.KeptModes.{passed_none, up_to, pass_kept, passed_all}
 use Rattle.pb_expand.proofs.edges.push_known.Goals as goal
+
+pub loop-known-init : goal.loop-known-init
+loop-known-init c = (
+  passed_none (map (λ b. b.now) c.args.places.now.blocks.items) c.args.places.now.rows.keys c.args.places.now.pins.keys c.args.owner.0 c.args.kept.now c.args.edges.now.items c.requires.before,
+  c.requires.few,
+)
 
 pub returns-then-len-clause-many : goal.returns-then-len-clause-many
 returns-then-len-clause-many c = λ told.
     let blocks = map (λ b. b.now) c.args.places.now.blocks.items in
     let block = element blocks c.args.owner.0 (omega (arith, c.requires.there, length-map c.args.places.now.blocks.items (λ b. b.now))) in
-    let lists = c.args.lists.now in
-    let local = c.index-lists-mode.result in
-    let at_k = slice_get_read lists (length lists) c.loop-mode.mode local refl c.loop-mode-test.true c.index-lists-mode.is in
-    let known = is_known blocks c.args.owner.0 c.loop-mode.mode lists block.0 local c.requires.lists block.1 at_k in
-    let few = c.loop-mode.invariant.1 in
-    let excess : 4194304 < length c.loop-mode.edges.items + length local.items =
-    omega (arith, c.if-len.true, c.len.ensures, c.len-in-loop-mode.ensures, c.loop-mode.edges.ok, local.ok) in
-    too_many blocks c.args.places.now.rows.keys c.args.places.now.pins.keys c.args.owner.0 c.loop-mode.mode
-    block.0 known.mode local.items c.loop-mode.edges.items c.requires.parts block.1 known.is_mode known.are c.loop-mode.invariant.0 excess
-
-pub overflow_cast-mode : goal.overflow_cast-mode
-overflow_cast-mode c =
-    let blocks = map (λ b. b.now) c.args.places.now.blocks.items in
-    let block = element blocks c.args.owner.0 (omega (arith, c.requires.there, length-map c.args.places.now.blocks.items (λ b. b.now))) in
-    omega (arith, c.requires.parts.short.each c.args.owner.0 block.0 block.1, (c.requires.lists block.0 block.1).all, c.loop-mode-test.true)
+    let kept = c.args.kept.now in
+    let one = c.known-item.result in
+    let at_k = slice_get_read kept (length kept) c.loop-known.known-index one refl c.loop-known-test.true c.known-item.is in
+    let are = c.requires.kept block.0 block.1 in
+    let mode = are.each c.loop-known.known-index one at_k in
+    let few = c.loop-known.invariant.1 in
+    let excess : 4194304 < length c.loop-known.edges.items + length one.edges.items =
+    omega (arith, c.if-len.true, c.len.ensures, c.len-in-loop-known.ensures, c.loop-known.edges.ok, one.edges.ok) in
+    too_many blocks c.args.places.now.rows.keys c.args.places.now.pins.keys c.args.owner.0 one.mode
+    block.0 mode.0 one.edges.items c.loop-known.edges.items c.requires.parts block.1 mode.1 mode.2
+    (up_to blocks c.args.places.now.rows.keys c.args.places.now.pins.keys c.args.owner.0 c.loop-known.known-index block.0 kept one c.loop-known.edges.items
+    c.requires.parts block.1 are at_k c.loop-known.invariant.0) excess
 
 pub push_local-requires-clause-places : goal.push_local-requires-clause-places
 push_local-requires-clause-places c =
     let blocks = map (λ b. b.now) c.args.places.now.blocks.items in
     let block = element blocks c.args.owner.0 (omega (arith, c.requires.there, length-map c.args.places.now.blocks.items (λ b. b.now))) in
-    let lists = c.args.lists.now in
-    let local = c.index-lists-mode.result in
-    let at_k = slice_get_read lists (length lists) c.loop-mode.mode local refl c.loop-mode-test.true c.index-lists-mode.is in
-    let known = is_known blocks c.args.owner.0 c.loop-mode.mode lists block.0 local c.requires.lists block.1 at_k in
-    subst (λ l. HavePlaces c.args.places.now.rows.keys c.args.places.now.pins.keys c.args.owner.0 c.loop-mode.mode l) (sym c.as_slice.ensures.value)
-    (c.requires.parts.places c.args.owner.0 c.loop-mode.mode block.0 known.mode local.items block.1 known.is_mode known.are)
+    let kept = c.args.kept.now in
+    let one = c.known-item.result in
+    let at_k = slice_get_read kept (length kept) c.loop-known.known-index one refl c.loop-known-test.true c.known-item.is in
+    let mode = (c.requires.kept block.0 block.1).each c.loop-known.known-index one at_k in
+    subst (λ l. HavePlaces c.args.places.now.rows.keys c.args.places.now.pins.keys c.args.owner.0 one.mode l) (sym c.as_slice.ensures.value)
+    (c.requires.parts.places c.args.owner.0 one.mode block.0 mode.0 one.edges.items block.1 mode.1 mode.2)
 
-pub loop-mode-preserved : goal.loop-mode-preserved
-loop-mode-preserved c =
+pub loop-known-preserved : goal.loop-known-preserved
+loop-known-preserved c =
     let blocks = map (λ b. b.now) c.args.places.now.blocks.items in
-    let instances = addresses c.args.places.now.rows.keys in
+    let rows = c.args.places.now.rows.keys in
     let pins = c.args.places.now.pins.keys in
     let block = element blocks c.args.owner.0 (omega (arith, c.requires.there, length-map c.args.places.now.blocks.items (λ b. b.now))) in
-    let lists = c.args.lists.now in
-    let local = c.index-lists-mode.result in
-    let at_k = slice_get_read lists (length lists) c.loop-mode.mode local refl c.loop-mode-test.true c.index-lists-mode.is in
-    let known = is_known blocks c.args.owner.0 c.loop-mode.mode lists block.0 local c.requires.lists block.1 at_k in
-    let address = element instances c.args.owner.0 (omega (arith, slice_get_within blocks c.args.owner.0 block.0 block.1, c.requires.parts.all_addresses)) in
-    let adds = subst (λ l. AddsPlaced instances pins c.args.owner.0 c.loop-mode.mode l c.loop-mode.edges.items c.push_local.new.edges.items) c.as_slice.ensures.value c.in_ok-push_local.ensures in
-    let few = c.loop-mode.invariant.1 in
-    let longer = adds_length instances pins c.args.owner.0 c.loop-mode.mode local.items c.loop-mode.edges.items c.push_local.new.edges.items adds in (
-      batch blocks instances pins c.args.owner.0 c.loop-mode.mode block.0 address.0 known.mode local.items
-          c.loop-mode.edges.items c.push_local.new.edges.items c.requires.parts.numbered.once_instances c.requires.parts.numbered.once_pins block.1 address.1 known.is_mode
-          known.are adds c.loop-mode.invariant.0,
-      omega (arith, longer, c.if-len.false, c.len.ensures, c.len-in-loop-mode.ensures, c.loop-mode.edges.ok, local.ok),
+    let kept = c.args.kept.now in
+    let one = c.known-item.result in
+    let at_k = slice_get_read kept (length kept) c.loop-known.known-index one refl c.loop-known-test.true c.known-item.is in
+    let adds = subst (λ l. AddsPlaced (addresses rows) pins c.args.owner.0 one.mode l c.loop-known.edges.items c.push_local.new.edges.items) c.as_slice.ensures.value c.in_ok-push_local.ensures in
+    let few = c.loop-known.invariant.1 in
+    let longer = adds_length (addresses rows) pins c.args.owner.0 one.mode one.edges.items c.loop-known.edges.items c.push_local.new.edges.items adds in (
+      pass_kept blocks rows pins c.args.owner.0 c.loop-known.known-index block.0 kept one c.loop-known.edges.items c.push_local.new.edges.items
+          c.requires.parts block.1 (c.requires.kept block.0 block.1) at_k adds c.loop-known.invariant.0,
+      omega (arith, longer, c.if-len.false, c.len.ensures, c.len-in-loop-known.ensures, c.loop-known.edges.ok, one.edges.ok),
     )
 
 pub returns-clause-edges : goal.returns-clause-edges
 returns-clause-edges c =
     let blocks = map (λ b. b.now) c.args.places.now.blocks.items in
     let block = element blocks c.args.owner.0 (omega (arith, c.requires.there, length-map c.args.places.now.blocks.items (λ b. b.now))) in
-    mode_ends blocks (addresses c.args.places.now.rows.keys) c.args.places.now.pins.keys c.args.owner.0 c.loop-mode.mode block.0 c.loop-mode.edges.items
-    block.1 (omega (arith, (c.requires.lists block.0 block.1).all, c.loop-mode-test.false)) c.loop-mode.invariant.0
+    passed_all blocks c.args.places.now.rows.keys c.args.places.now.pins.keys c.args.owner.0 c.loop-known.known-index block.0 c.args.kept.now c.loop-known.edges.items
+    c.requires.parts block.1 (c.requires.kept block.0 block.1) (omega (arith, c.loop-known-test.false)) c.loop-known.invariant.0

@@ -1,9 +1,8 @@
 use Rattle.std.proofs.Common.{◌≤◌, length, map}
-use Rattle.pb_expand.specs.Rows.{addresses}
-use Rattle.pb_expand.specs.Making.{AreBefore}
+use Rattle.pb_expand.proofs.KeptModes.{ArePassed}
 use Rattle.pb_expand.proofs.edges.push_known.Given as goal
 
-abbrev pub invariant-loop-mode : goal.invariant-loop-mode
-invariant-loop-mode l =
-    AreBefore (map (λ b. b.now) l.places.blocks.items) (addresses l.places.rows.keys) l.places.pins.keys l.owner.0 l.mode l.edges.items
+abbrev pub invariant-loop-known : goal.invariant-loop-known
+invariant-loop-known l =
+    ArePassed (map (λ b. b.now) l.places.blocks.items) l.places.rows.keys l.places.pins.keys l.owner.0 l.known-index l.kept l.edges.items
     × (length l.edges.items ≤ 4194304)

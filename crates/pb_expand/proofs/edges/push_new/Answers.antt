@@ -1,15 +1,16 @@
 use Rattle.std.proofs.Common.{◌≡◌, ◌+◌, ◌<◌, Some, Err, map, length, refl, sym, ap, ◌∙◌, subst, arith, slice_get}
 use Rattle.std.proofs.lemmas.Option.{slice_get_read, slice_get_within}
+use Rattle.arch_types.specs.declared.block.PbType.{PbType}
 use Rattle.arch_types.specs.Tree.{modes_of}
 use Rattle.pb_expand.specs.declared.error.SizeError.TheVariants as size
 use Rattle.pb_expand.specs.Rows.{addresses}
-use Rattle.pb_expand.specs.Making.{AddsPlaced, HavePlaces}
+use Rattle.pb_expand.specs.Making.{AddsPlaced, HavePlaces, AreModeEdges}
 use Rattle.pb_expand.proofs.Told.{passed_on}
 use Rattle.pb_expand.proofs.Lists.{now_at, element}
 use Rattle.pb_expand.proofs.Batch.{batch}
 use Rattle.pb_expand.proofs.EdgeList.{mode_ends}
 use Rattle.pb_expand.proofs.Excess.{too_many, adds_length}
-use Rattle.pb_expand.proofs.ModeLists.{made_push, made_all}
+use Rattle.pb_expand.proofs.ModeLists.{kept_more}
 use Rattle.pb_expand.proofs.edges.push_new.Goals as goal
 
 pub local_edges-requires : goal.local_edges-requires
@@ -34,8 +35,8 @@ returns-in_err-local-clause-many c = λ told.
     too_many (map (λ b. b.now) c.args.places.now.blocks.items) c.args.places.now.rows.keys c.args.places.now.pins.keys c.args.owner.0 c.loop-mode.mode
     c.index-block.result.now.now c.is-item.result more.edges c.loop-mode.edges.items c.requires.parts here is_mode more.are c.loop-mode.invariant.0 excess
 
-pub overflow_cast-mode : goal.overflow_cast-mode
-overflow_cast-mode c =
+pub overflow_cast-number : goal.overflow_cast-number
+overflow_cast-number c =
     let here = now_at c.args.places.now.blocks.items c.args.owner.0 c.index-block.result.now (omega (arith, c.requires.there)) c.index-block.ensures in
     omega (arith, c.requires.parts.short.each c.args.owner.0 c.index-block.result.now.now here, ap length c.modes_in-is-items.ensures, c.loop-mode-test.true)
 
@@ -67,8 +68,8 @@ loop-mode-preserved c =
           c.loop-mode.edges.items c.push_local.new.edges.items c.requires.parts.numbered.once_instances c.requires.parts.numbered.once_pins here address.1 is_mode
           c.in_ok-local.ensures.edges adds c.loop-mode.invariant.0,
       omega (arith, longer, c.in_ok-local.ensures.few, c.len.ensures, c.loop-mode.edges.ok),
-      made_push blocks c.args.owner.0 c.loop-mode.mode c.loop-mode.lists.items c.push.new.self.items c.index-block.result.now.now c.is-item.result c.in_ok-local.local
-          c.loop-mode.invariant.2 here is_mode c.in_ok-local.ensures.edges c.in_ok-push.ensures.items,
+      kept_more c.index-block.result.now.now c.loop-mode.mode c.loop-mode.kept.items c.keep.new.kept.items c.is-item.result c.in_ok-local.local
+          c.loop-mode.invariant.2 is_mode c.in_ok-local.ensures.edges c.in_ok-keep.ensures,
     )
 
 pub returns-clause-edges : goal.returns-clause-edges
@@ -79,9 +80,10 @@ returns-clause-edges c =
     here (omega (arith, ap length c.modes_in-is-items.ensures, c.loop-mode-test.false)) c.loop-mode.invariant.0
 
 pub returns-clause-made : goal.returns-clause-made
-returns-clause-made c =
-    let blocks = map (λ b. b.now) c.args.places.now.blocks.items in
+returns-clause-made c = λ b at_b.
     let here = now_at c.args.places.now.blocks.items c.args.owner.0 c.index-block.result.now (omega (arith, c.requires.there)) c.index-block.ensures in
-    let done : length (modes_of c.index-block.result.now.now.kind) ≡ c.loop-mode.mode =
-    sym (ap length c.modes_in-is-items.ensures) ∙ omega (arith, c.loop-mode-test.false, c.loop-mode.auto.mode-end) in
-    made_all blocks c.args.owner.0 c.loop-mode.mode c.loop-mode.lists.items c.index-block.result.now.now c.loop-mode.invariant.2 here done
+    let same : c.index-block.result.now.now ≡ b = cc (here, at_b) in
+    let done : c.loop-mode.mode ≡ length (modes_of c.index-block.result.now.now.kind) =
+    omega (arith, c.loop-mode-test.false, c.loop-mode.auto.mode-end, ap length c.modes_in-is-items.ensures) in
+    subst (λ (x : PbType). AreModeEdges x (length (modes_of x.kind)) c.loop-mode.kept.items) same
+    (subst (λ k. AreModeEdges c.index-block.result.now.now k c.loop-mode.kept.items) done c.loop-mode.invariant.2)

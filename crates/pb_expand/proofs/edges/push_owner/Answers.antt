@@ -5,8 +5,8 @@ use Rattle.pb_expand.specs.declared.number.PbIx.{PbIx}
 use Rattle.pb_expand.proofs.ModeLists.{known_at}
 use Rattle.pb_expand.proofs.edges.push_owner.Goals as goal
 
-pub push_known-requires-clause-lists : goal.push_known-requires-clause-lists
-push_known-requires-clause-lists c =
+pub push_known-requires-clause-kept : goal.push_known-requires-clause-kept
+push_known-requires-clause-kept c =
     let blocks = map (λ b. b.now) c.args.places.now.blocks.items in
     let firsts = c.args.places.now.firsts.items in
     let first = c.index-first.result.now in

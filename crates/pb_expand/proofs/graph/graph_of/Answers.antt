@@ -1,0 +1,69 @@
+use Rattle.std.proofs.Common.{Err, map, length, refl, sym, ap, ◌∙◌, subst, inr, arith}
+use Rattle.std.proofs.lemmas.List.{length-map}
+use Rattle.arch_types.specs.declared.block.PbType.{PbType}
+use Rattle.pb_expand.specs.Rows.{addresses}
+use Rattle.pb_expand.specs.Ends.{AreEnds}
+use Rattle.pb_expand.specs.Making.{AreBefore}
+use Rattle.pb_expand.specs.Refusals.{IsRefusal, edge_told, size_told}
+use Rattle.pb_expand.proofs.RowLemmas.{length-addresses}
+use Rattle.pb_expand.proofs.Tying.{tied}
+use Rattle.pb_expand.proofs.Told.{passed_with}
+use Rattle.pb_expand.proofs.Verdicts.{fault_told, excess_told, more_edges, not_more, or_edges, small}
+use Rattle.pb_expand.proofs.Parts.{parts}
+use Rattle.pb_expand.proofs.graph.graph_of.Goals as goal
+
+pub returns-in_err-check_tree-clause-refused : goal.returns-in_err-check_tree-clause-refused
+returns-in_err-check_tree-clause-refused c =
+    let e = c.in_err-check_tree.field-0.0 in
+    passed_with (IsRefusal c.args.root.now) _ (edge_told e) c.from_residual-in_err-check_tree.ensures.1
+    (subst (λ (b : PbType). IsRefusal b (edge_told e)) c.in_ok-copy.ensures (fault_told c.in_ok-copy.copy e c.in_err-check_tree.ensures.fault))
+
+pub returns-in_err-places-clause-refused : goal.returns-in_err-places-clause-refused
+returns-in_err-places-clause-refused c =
+    let e = c.in_err-places.field-0.0 in
+    let copy = c.in_ok-copy.copy in
+    passed_with (IsRefusal c.args.root.now) _ (size_told e) c.from_residual-in_err-places.ensures.1
+    (subst (λ (b : PbType). IsRefusal b (size_told e)) c.in_ok-copy.ensures
+    (excess_told copy e (Err e) refl c.in_ok-check_tree.ensures.sound (λ told. or_edges copy (c.in_err-places.ensures.many told))))
+
+pub edges_of-requires-clause-parts : goal.edges_of-requires-clause-parts
+edges_of-requires-clause-parts c =
+    let places = c.in_ok-places.places in
+    parts c.in_ok-copy.copy places.rows.keys places.pins.keys (map (λ b. b.now) places.blocks.items) c.in_ok-places.ensures.tree c.in_ok-places.ensures.instances
+    c.in_ok-places.ensures.blocks c.in_ok-places.ensures.short c.in_ok-places.ensures.pins c.in_ok-places.ensures.few_rows c.in_ok-places.ensures.few_pins
+    c.in_ok-check_tree.ensures.sound
+
+pub returns-in_err-edges-clause-refused : goal.returns-in_err-edges-clause-refused
+returns-in_err-edges-clause-refused c =
+    let e = c.in_err-edges.field-0.0 in
+    let copy = c.in_ok-copy.copy in
+    let places = c.in_ok-places.places in
+    passed_with (IsRefusal c.args.root.now) _ (size_told e) c.from_residual-in_err-edges.ensures.1
+    (subst (λ (b : PbType). IsRefusal b (size_told e)) c.in_ok-copy.ensures
+    (excess_told copy e (Err e) refl c.in_ok-check_tree.ensures.sound (λ told.
+    inr (inr (more_edges copy (map (λ b. b.now) places.blocks.items) (addresses places.rows.keys) places.pins.keys 4194304 c.in_ok-places.ensures.blocks
+    c.in_ok-places.ensures.instances c.in_ok-places.ensures.pins (c.in_err-edges.ensures.many told))))))
+
+pub invariant_of-result : goal.invariant_of-result
+invariant_of-result c =
+    let places = c.in_ok-places.places in
+    let blocks = map (λ b. b.now) places.blocks.items in
+    let before = subst (λ n. AreBefore blocks (addresses places.rows.keys) places.pins.keys n 0 c.in_ok-edges.edges.items)
+    (sym (length-map places.blocks.items (λ b. b.now))) c.in_ok-edges.ensures.edges in
+    let ends = subst (λ l. AreEnds l c.in_ok-into.into) c.as_slice.ensures.value c.in_ok-into.ensures in
+    rw c.into_parts-rows.ensures
+    (tied _ blocks c.in_ok-places.ensures.tree c.in_ok-places.ensures.instances c.in_ok-places.ensures.blocks c.in_ok-places.ensures.short c.in_ok-places.ensures.pins
+    c.in_ok-places.ensures.few_rows c.in_ok-places.ensures.few_pins before c.in_ok-edges.ensures.few ends
+    c.in_ok-places.ensures.firsts (c.in_ok-places.ensures.all_firsts ∙ sym (length-map places.blocks.items (λ b. b.now))))
+
+pub returns-clause-fits : goal.returns-clause-fits
+returns-clause-fits c =
+    let root = c.in_ok-copy.copy in
+    let places = c.in_ok-places.places in
+    let blocks = map (λ b. b.now) places.blocks.items in
+    let before = subst (λ n. AreBefore blocks (addresses places.rows.keys) places.pins.keys n 0 c.in_ok-edges.edges.items)
+    (sym (length-map places.blocks.items (λ b. b.now))) c.in_ok-edges.ensures.edges in
+    small root (not_more root blocks (addresses places.rows.keys) places.pins.keys c.in_ok-edges.edges.items 4194304 c.in_ok-places.ensures.blocks c.in_ok-places.ensures.instances
+    c.in_ok-places.ensures.pins before c.in_ok-edges.ensures.few)
+    (omega (arith, c.in_ok-places.ensures.few_rows, length-addresses places.rows.keys, ap length c.in_ok-places.ensures.instances))
+    (omega (arith, c.in_ok-places.ensures.few_pins, ap length c.in_ok-places.ensures.pins))
