@@ -1,12 +1,12 @@
 //! Expands a block type whose one interconnect is a `complete`, and tells how many edges it has. It
-//! is what bench/expand times. The seconds that `expand` took go to the standard error.
+//! is what bench/expand times. The seconds that `graph_of` took go to the standard error.
 #![tactic(auto)]
 
 ghost use Rattle.std.specs.Prelude.{◌≤◌, IfOk};
 
 use anyhow::{Context, bail};
-use expand_samples::{arch_of, crossbar};
-use pb_expand::{ExpandError, expand};
+use expand_samples::crossbar;
+use pb_expand::{ExpandError, graph_of};
 use std::alloc::Global;
 use std::env;
 use std::time::Instant;
@@ -33,8 +33,7 @@ fn number(word: Option<String>) -> anyhow::Result<u32>
 
 /// How many edges the block type has whose `complete` joins so many input pins to so many others.
 fn edge_count(alloc: Global, ins: u32, outs: u32) -> Result<u32, ExpandError> {
-    let arch = arch_of(alloc, crossbar(alloc, ins, outs, false)?)?;
-    let graph = expand(alloc, &arch, 0)?;
+    let graph = graph_of(alloc, &crossbar(alloc, ins, outs, false)?, 0)?;
     Ok(graph.edges())
 }
 

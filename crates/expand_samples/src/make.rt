@@ -1,6 +1,4 @@
-ghost use Rattle.std.specs.Prelude.{◌≡◌, IfOk, length};
-
-use arch_types::{Arch, Inter, InterKind, Kind, Mode, PbType, Port, Side};
+use arch_types::{Inter, InterKind, Kind, Mode, PbType, Port, Side};
 use sqlite_items::Items;
 use std::alloc::{AllocError, Global};
 use vtr_base::Text;
@@ -84,9 +82,7 @@ pub fn mode(
 }
 
 /// One child.
-pub fn one_kid(alloc: Global, kid: PbType) -> Result<Items<PbType>, AllocError>
-    ensures { IfOk result (λ kids. length kids ≡ 1) }
-{
+pub fn one_kid(alloc: Global, kid: PbType) -> Result<Items<PbType>, AllocError> {
     let mut kids = Items::new(alloc);
     kids.push(kid)?;
     Ok(kids)
@@ -111,16 +107,4 @@ pub fn two_modes(alloc: Global, first: Mode, second: Mode) -> Result<Items<Mode>
     let mut modes = one_mode(alloc, first)?;
     modes.push(second)?;
     Ok(modes)
-}
-
-/// An architecture with nothing but one block type.
-pub fn arch_of(alloc: Global, root: PbType) -> Result<Arch, AllocError>
-    ensures { IfOk result (λ arch. length arch.blocks ≡ 1) }
-{
-    Ok(Arch {
-        models: Items::new(alloc),
-        tiles: Items::new(alloc),
-        layouts: Items::new(alloc),
-        blocks: one_kid(alloc, root)?,
-    })
 }

@@ -1,6 +1,6 @@
 //! A plain slow program that lists the edges of a block type straight from the definition: of each
 //! mode it goes through all pins that there are, and asks of each whether a word names it. It reads
-//! only what `expand` accepts.
+//! only what `graph_of` accepts.
 ghost use Rattle.std.specs.Prelude.{◌<◌, length};
 
 use arch_types::{InterKind, Kind, Mode, PbType, Port, Side};

@@ -1,15 +1,9 @@
 use crate::plain::plain_edges;
-use crate::{InterRow, arch_of, crossbar, fracturable, logic, nested, pads, paired, wide_cell};
+use crate::{InterRow, crossbar, fracturable, logic, nested, pads, paired, wide_cell};
 use arch_types::{InterKind, PbType};
-use pb_expand::{Edge, EdgeIx, ExpandError, PbGraph, PbIx, PinIx, expand};
+use pb_expand::{Edge, EdgeIx, ExpandError, PbGraph, PbIx, PinIx, graph_of};
 use std::alloc::{AllocError, Global};
 use std::test::Fail;
-
-/// The graph of a block type.
-fn graph_of(alloc: Global, root: PbType) -> Result<PbGraph, ExpandError> {
-    let arch = arch_of(alloc, root)?;
-    expand(alloc, &arch, 0)
-}
 
 /// Whether the edges of a graph are these, in this order.
 fn has_edges(graph: &PbGraph, wanted: &[Edge]) -> bool {
@@ -47,7 +41,7 @@ fn expands(
     pins: u32,
     rows: &[[u32; 5]],
 ) -> Result<bool, ExpandError> {
-    let graph = graph_of(alloc, root)?;
+    let graph = graph_of(alloc, &root, 0)?;
     let wanted = edges(alloc, rows)?;
     let plain = plain_edges(alloc, &graph)?;
     Ok(
@@ -61,7 +55,7 @@ fn expands(
 /// Whether a block type is refused by this number, with the interconnect of this name. By 0 it is
 /// expanded.
 fn is_refused(alloc: Global, root: PbType, number: u32, name: &str) -> Result<bool, AllocError> {
-    match graph_of(alloc, root) {
+    match graph_of(alloc, &root, 0) {
         Err(ExpandError::NoSuchPin { inter }) => Ok(number == 21 && inter.as_str() == name),
         Err(ExpandError::Width { inter }) => Ok(number == 22 && inter.as_str() == name),
         Err(ExpandError::WideMux { inter }) => Ok(number == 23 && inter.as_str() == name),
@@ -176,7 +170,7 @@ fn expands_pin_words(rt: HostRuntime) -> Result<(), Fail> {
 
 /// Whether the plain program lists the edges of the graph of a block with these interconnects.
 fn is_plain(alloc: Global, rows: &[InterRow<'_>]) -> Result<bool, ExpandError> {
-    let graph = graph_of(alloc, paired(alloc, rows)?)?;
+    let graph = graph_of(alloc, &paired(alloc, rows)?, 0)?;
     let plain = plain_edges(alloc, &graph)?;
     Ok(has_edges(&graph, plain.as_slice()))
 }
@@ -258,9 +252,9 @@ fn tells_what_is_too_large(rt: HostRuntime) -> Result<(), Fail> {
 #[test]
 fn expands_the_largest(rt: HostRuntime) -> Result<(), Fail> {
     let alloc = rt.alloc();
-    let graph = graph_of(alloc, wide_cell(alloc, 0)?)?;
+    let graph = graph_of(alloc, &wide_cell(alloc, 0)?, 0)?;
     assert_eq!(rt; graph.pins(), 1048576);
-    let graph = graph_of(alloc, crossbar(alloc, 2048, 2048, false)?)?;
+    let graph = graph_of(alloc, &crossbar(alloc, 2048, 2048, false)?, 0)?;
     assert_eq!(rt; graph.edges(), 4194304);
     Ok(())
 }
