@@ -11,6 +11,7 @@ pub mod Spoken
 pub mod Sides
 pub mod Tabled
 pub mod Tables
+pub mod ModeNames
 pub mod Through
 pub mod Wanted
 pub mod Written
@@ -30,3 +31,4 @@ pub mod OneName
 pub mod OneOwner
 pub mod OneReading
 pub mod OneRefusal
+pub mod PlainNames

@@ -3,7 +3,7 @@ use Rattle.std.proofs.Common.{◌≡◌, ◌<◌, ◌+◌, ℕ, Bool, true, fals
 use Rattle.std.specs.Prelude.{IsSome}
 use Rattle.std.specs.Str.{bytes_eq}
 use Rattle.std.specs.Map.{lookup, IsKeyTest, AreApart, KeepsOthers}
-use Rattle.std.specs.HashMap.{HashMap, UpdatesBy}
+use Rattle.std.specs.HashMap.{HashMap, UpdatesBy, get_by}
 use Rattle.std.specs.Cmp.Lexicographic.{bytes_decides, nat_list_eq_equiv}
 use Rattle.pb_expand.specs.Graph.{Graph}
 use Rattle.prog_map.specs.declared.find.Finder.{Finder}
@@ -18,17 +18,23 @@ module _ {K : Type 0} (eq : K → K → Bool) (test : K → Bool) where
   unfolding KeepsOthers
   other_entries old new h = h
 
+-- what a table holds after something was put at a name
+pub put_at : {A S X : Type 0} (m n : HashMap (Vec ℕ A) X S) (key : List ℕ) (v : X) →
+    UpdatesBy (λ x y. bytes_eq (vec_items x) (vec_items y)) (λ y. bytes_eq key (vec_items y)) m n (Some v) →
+    (text : List ℕ) → get_by (λ k. bytes_eq text (vec_items k)) n ≡ cond (bytes_eq key text) (Some v) (get_by (λ k. bytes_eq text (vec_items k)) m)
+put_at m n key v updates text = by (bytes_eq key text) refl
+  where
+    by : (b : Bool) → bytes_eq key text ≡ b → get_by (λ k. bytes_eq text (vec_items k)) n ≡ cond b (Some v) (get_by (λ k. bytes_eq text (vec_items k)) m)
+    by true e = ap (λ name. get_by (λ k. bytes_eq name (vec_items k)) n) (sym ((bytes_decides key text).0 e)) ∙ updates.1
+    by false e =
+        other_entries _ _ _ _ updates.3 _ (λ x y. nat_list_eq_equiv.congr text (vec_items x) (vec_items y))
+        (λ k. apart key text (vec_items k) e)
+
 -- what a table holds after a name got a number
 pub numbered_put : {A S : Type 0} (m n : HashMap (Vec ℕ A) ℕ S) (key : List ℕ) (v : ℕ) →
     UpdatesBy (λ x y. bytes_eq (vec_items x) (vec_items y)) (λ y. bytes_eq key (vec_items y)) m n (Some v) →
     (text : List ℕ) → numbered n text ≡ cond (bytes_eq key text) (Some v) (numbered m text)
-numbered_put m n key v updates text = by (bytes_eq key text) refl
-  where
-    by : (b : Bool) → bytes_eq key text ≡ b → numbered n text ≡ cond b (Some v) (numbered m text)
-    by true e = ap (numbered n) (sym ((bytes_decides key text).0 e)) ∙ updates.1
-    by false e =
-        other_entries _ _ _ _ updates.3 _ (λ x y. nat_list_eq_equiv.congr text (vec_items x) (vec_items y))
-        (λ k. apart key text (vec_items k) e)
+numbered_put m n key v updates text = put_at m n key v updates text
 
 -- a table of no names
 pub table_starts : {A S : Type 0} (name : ℕ → List ℕ) (m : HashMap (Vec ℕ A) ℕ S) → ((text : List ℕ) → numbered m text ≡ None) → IsTableOf name 0 m

@@ -1,11 +1,10 @@
 -- Edges into a pin that are looked for by the name of their mode and by their source.
-use Rattle.std.proofs.Common.{◌≡◌, ◌<◌, ◌+◌, ◌⊎◌, ◌==◌, ◌&&◌, if◌then◌else◌, inl, inr, ℕ, zero, suc, Bool, true, false, List, [], ◌∷◌, length, Option, Some, None, sym, ap, ◌∙◌, subst, arith}
+use Rattle.std.proofs.Common.{◌≡◌, ◌<◌, ◌+◌, ◌⊎◌, ◌==◌, ◌&&◌, if◌then◌else◌, inl, inr, ℕ, zero, suc, Bool, true, false, List, [], ◌∷◌, length, Option, Some, None, ◌↔◌, refl, sym, ap, ◌∙◌, subst, arith}
 use Rattle.std.specs.Prelude.{slice_get, MatchOption, IsTrue}
-use Rattle.std.specs.Option.{option_and_then}
 use Rattle.std.proofs.lemmas.Bool.Decides.{nat_tests}
-use Rattle.arch_types.specs.declared.block.PbType.{PbType}
-use Rattle.arch_types.specs.declared.block.Mode.{Mode}
-use Rattle.arch_types.specs.Tree.{modes_of, name_of_mode}
+use Rattle.std.proofs.lemmas.Bool.{cases_eq}
+use Rattle.std.proofs.lemmas.Option.{slice_get_within}
+use Rattle.vtr_base.specs.Lists.{Has}
 use Rattle.arch_types.specs.Address.{Address, Hop}
 use Rattle.mode_edges.specs.declared.pin.ChildAt.{ChildAt}
 use Rattle.pb_expand.specs.declared.number.PinIx.{PinIx}
@@ -13,9 +12,10 @@ use Rattle.pb_expand.specs.declared.number.EdgeIx.{EdgeIx}
 use Rattle.pb_expand.specs.declared.number.Step.{Step}
 use Rattle.pb_expand.specs.declared.number.PinAt.{PinAt}
 use Rattle.pb_expand.specs.declared.number.Edge.{Edge}
-use Rattle.pb_expand.specs.Graph.{Graph, LeadsTo, block_at, mode_at, hop_of, into_from, edge_ix, pin_at}
+use Rattle.pb_expand.specs.Graph.{Graph, LeadsTo, hop_of, into_from, edge_ix, pin_at}
 use Rattle.pb_expand.specs.Expansion.{IsExpansion, IsEdgeOf, owner_address}
-use Rattle.pb_expand.proofs.Lists.{has_at, snoc_last}
+use Rattle.pb_expand.proofs.Lists.{has_at, at_has, snoc_last}
+use Rattle.prog_map.specs.Names.{NamesMode}
 use Rattle.prog_map.specs.NamedEdges.{IsNamedEdge, IsEdgeWanted}
 use Rattle.prog_map.proofs.Climbs.{some_injective}
 use Rattle.prog_map.proofs.Owners.{root_alone, owner_of_end}
@@ -112,49 +112,28 @@ none_at_root g law pin name wanted at is_at root own edge is =
       | inr up ↦ root_alone g is.edge.owner.0 at.pb.0 law root up
     ]
 
--- none of the first modes of the instance has a wanted edge
-abbrev pub NoneOfModes : Graph → ℕ → ℕ → ℕ → List ℕ → Option PinIx → Type 0
-NoneOfModes g pb count pin name wanted =
-    (edge : ℕ) (is : IsEdgeWanted g edge pin name wanted) → is.edge.owner.0 ≡ pb → is.edge.mode < count → ⊥
+-- none of the first modes of a list has a wanted edge
+abbrev pub NoneOfModes : Graph → List ℕ → ℕ → ℕ → List ℕ → Option PinIx → Type 0
+NoneOfModes g modes count pin name wanted =
+    (j mode : ℕ) → j < count → slice_get modes j ≡ Some mode → (edge : ℕ) (is : IsEdgeWanted g edge pin name wanted) → is.edge.mode ≡ mode → ⊥
 
-pub no_modes_yet : (g : Graph) (pb pin : ℕ) (name : List ℕ) (wanted : Option PinIx) → NoneOfModes g pb 0 pin name wanted
-no_modes_yet g pb pin name wanted edge is own below = absurd (omega (arith, below))
-
-pub mode_looked_at : (g : Graph) (pb count pin : ℕ) (name : List ℕ) (wanted : Option PinIx) → NoneOfModes g pb count pin name wanted →
-    ((edge : ℕ) (is : IsEdgeWanted g edge pin name wanted) → is.edge.mode ≡ count → ⊥) → NoneOfModes g pb (count + 1) pin name wanted
-mode_looked_at g pb count pin name wanted before here edge is own below =
-    before edge is own (omega (arith, below, here edge is))
-
--- a mode of another name has none
-pub other_name : (g : Graph) (pb count pin : ℕ) (name : List ℕ) (wanted : Option PinIx) (block : PbType) (modes : List Mode) (mode : Mode) →
-    block_at g pb ≡ Some block → modes_of block.kind ≡ modes → slice_get modes count ≡ Some mode → (name ≡ name_of_mode mode → ⊥) →
-    NoneOfModes g pb count pin name wanted → NoneOfModes g pb (count + 1) pin name wanted
-other_name g pb count pin name wanted block modes mode is_block are is other before edge w own below =
-    before edge w own (omega (arith, below, not_here))
+pub mode_looked_at : (g : Graph) (modes : List ℕ) (count pin mode : ℕ) (name : List ℕ) (wanted : Option PinIx) → NoneOfModes g modes count pin name wanted →
+    slice_get modes count ≡ Some mode → ((edge : ℕ) (is : IsEdgeWanted g edge pin name wanted) → is.edge.mode ≡ mode → ⊥) →
+    NoneOfModes g modes (count + 1) pin name wanted
+mode_looked_at g modes count pin mode name wanted before at_count here j m below at_j edge is in_mode = by (cases_eq j count)
   where
-    not_here : w.edge.mode ≡ count → ⊥
-    not_here here =
-        let at_pb : mode_at g pb count ≡ Some w.named.is_mode.is =
-        ap (λ n. mode_at g n count) (sym own) ∙ ap (λ m. mode_at g w.edge.owner.0 m) (sym here) ∙ w.named.is_mode.there in
-        let read : mode_at g pb count ≡ Some mode =
-        ap (option_and_then (λ (b : PbType). slice_get (modes_of b.kind) count)) is_block ∙ ap (λ ms. slice_get ms count) are ∙ is in
-        let same : w.named.is_mode.is ≡ mode = some_injective (sym at_pb ∙ read) in
-        other (w.named.is_mode.spelled ∙ ap name_of_mode same)
+    by : (j ≡ count) ⊎ (j ≡ count → ⊥) → ⊥
+    by (inl same) =
+        let one : m ≡ mode = some_injective (sym at_j ∙ ap (slice_get modes) same ∙ at_count) in here edge is (in_mode ∙ one)
+    by (inr other) = before j m (omega (arith, below, other)) at_j edge is in_mode
 
--- all modes were looked at
-pub none_own : (g : Graph) (pb count pin : ℕ) (name : List ℕ) (wanted : Option PinIx) (block : PbType) (modes : List Mode) → block_at g pb ≡ Some block →
-    modes_of block.kind ≡ modes → (count < length modes → ⊥) → NoneOfModes g pb count pin name wanted → NoneOwn g pin name wanted pb
-none_own g pb count pin name wanted block modes is_block are all none edge is own =
-    let at_pb : mode_at g pb is.edge.mode ≡ Some is.named.is_mode.is = ap (λ n. mode_at g n is.edge.mode) (sym own) ∙ is.named.is_mode.there in
-    let read : mode_at g pb is.edge.mode ≡ slice_get modes is.edge.mode =
-    ap (option_and_then (λ (b : PbType). slice_get (modes_of b.kind) is.edge.mode)) is_block ∙ ap (λ ms. slice_get ms is.edge.mode) are in
-    let inside : is.edge.mode < length modes = within modes is.edge.mode is.named.is_mode.is (sym read ∙ at_pb) in
-    none edge is own (omega (arith, inside, all))
-  where
-    within : (ms : List Mode) (k : ℕ) (m : Mode) → slice_get ms k ≡ Some m → k < length ms
-    within [] k m is = cc
-    within (x ∷ ms) zero m is = omega arith
-    within (x ∷ ms) (suc k) m is = let rest = within ms k m is in omega (arith, rest)
+-- all modes of that name were looked at
+pub none_own : (g : Graph) (pb count pin : ℕ) (name : List ℕ) (wanted : Option PinIx) (modes : List ℕ) → ((k : ℕ) → Has modes k ↔ NamesMode g pb name k) →
+    (count < length modes → ⊥) → NoneOfModes g modes count pin name wanted → NoneOwn g pin name wanted pb
+none_own g pb count pin name wanted modes are all none edge is own =
+    let at = at_has modes is.edge.mode ((are is.edge.mode).1 (subst (λ n. NamesMode g n name is.edge.mode) own is.named.is_mode)) in
+    let inside : at.0 < length modes = slice_get_within modes at.0 is.edge.mode at.1 in
+    none at.0 is.edge.mode (omega (arith, inside, all)) at.1 edge is refl
 
 -- a test that fails isn't met
 pub untrue : (b : Bool) → b ≡ false → IsTrue b → ⊥

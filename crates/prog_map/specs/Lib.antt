@@ -2,6 +2,7 @@ pub mod Leaves
 pub mod Choices
 pub mod Stored
 pub mod Names
+pub mod Modes
 pub mod Table
 pub mod Live
 pub mod Back

@@ -5,6 +5,7 @@ use Rattle.std.specs.HashMap.{HashMap, get_by}
 use Rattle.pb_expand.specs.Graph.{Graph}
 use Rattle.prog_map.specs.declared.find.Finder.{Finder}
 use Rattle.prog_map.specs.Names.{instance_name, pin_name}
+use Rattle.prog_map.specs.Modes.{AreModeTables}
 
 -- the number at a name
 abbrev pub numbered : {A S : Type 0} → HashMap (Vec ℕ A) ℕ S → List ℕ → Option ℕ
@@ -16,7 +17,8 @@ pub record IsTableOf {A S : Type 0} (name : ℕ → List ℕ) (count : ℕ) (num
   pub sound : (text : List ℕ) (n : ℕ) → numbered numbers text ≡ Some n → (n < count) × (text ≡ name n)
   pub complete : (n : ℕ) → n < count → IsSome (numbered numbers (name n))
 
--- a finder has the names of all instances and pins of the graph
+-- a finder has the names of all instances, of all pins and of the modes of each instance
 pub record IsFinderOf (g : Graph) (f : Finder) : Type 0 where
   pub instances : IsTableOf (instance_name g) (length g.instances) f.instances.numbers
   pub pins : IsTableOf (pin_name g) (length g.pins) f.pins.numbers
+  pub modes : AreModeTables g (length g.instances) f.modes

@@ -1,30 +1,32 @@
-ghost use Rattle.std.specs.Prelude.{◌≡◌, ◌<◌, ◌^◌, ◌↔◌, ℕ, Some, IfOk, IsTrue, MatchOption, length, slice_get};
-ghost use Rattle.arch_types.specs.declared.block.Mode.{Mode};
-ghost use Rattle.arch_types.specs.Tree.{modes_of, name_of_mode};
+ghost use Rattle.std.specs.Prelude.{◌<◌, ◌↔◌, ℕ, IfOk, MatchOption, length};
+ghost use Rattle.vtr_base.specs.Lists.{Has};
 ghost use Rattle.prog_map.specs.Names.{NamesInstance, NamesMode, NamesPin, instance_name, pin_name};
 ghost use Rattle.prog_map.specs.Table.{IsTableOf, IsFinderOf};
 
+use crate::modes::ModeTables;
 use crate::table::NameTable;
 use crate::{put_instance, put_pin};
-use arch_types::{Kind, Mode, PbType};
 use pb_expand::{PbGraph, PbIx, PinIx};
 use std::alloc::{AllocError, Global};
 
-/// The instances and pins of a graph by how they are written.
+/// The instances and pins of a graph by how they are written, and the modes of each instance by name.
 #[derive(Drop)]
 pub(crate) struct Finder {
     instances: NameTable,
     pins: NameTable,
+    modes: ModeTables,
 }
 
 impl Finder {
-    /// Makes the tables: one entry for each instance and each pin.
+    /// Makes the tables: one entry for each instance, each pin, and each mode of a
+    /// pb_type.
     pub(crate) fn new(alloc: Global, graph: &PbGraph) -> Result<Finder, AllocError>
         ensures { IfOk result (λ finder. IsFinderOf graph.now finder) }
     {
         Ok(Finder {
             instances: instances_of(alloc, graph)?,
             pins: pins_of(alloc, graph)?,
+            modes: ModeTables::new(alloc, graph)?,
         })
     }
 
@@ -50,6 +52,15 @@ impl Finder {
             Some(number) => Some(PinIx(number)),
             None => None,
         }
+    }
+
+    /// The modes of an instance that have this name, ascending.
+    pub(crate) fn modes(&self, graph: &PbGraph, pb: PbIx, name: &[u8]) -> &[u32]
+        requires there { pb.0 < length graph.now.instances }
+        requires of { IsFinderOf graph.now self.now }
+        ensures { (k : ℕ) → Has result.now k ↔ NamesMode graph.now pb.0 name.now k }
+    {
+        self.modes.named(graph, pb, name)
     }
 }
 
@@ -80,32 +91,10 @@ fn pins_of(alloc: Global, graph: &PbGraph) -> Result<NameTable, AllocError>
 }
 
 /// A mode of an instance that has this name.
-pub(crate) fn find_mode(graph: &PbGraph, pb: PbIx, name: &[u8]) -> Option<u32>
-    requires { pb.0 < length graph.now.instances }
+pub(crate) fn find_mode(graph: &PbGraph, finder: &Finder, pb: PbIx, name: &[u8]) -> Option<u32>
+    requires there { pb.0 < length graph.now.instances }
+    requires of { IsFinderOf graph.now finder.now }
     ensures { MatchOption result ((mode : ℕ) → NamesMode graph.now pb.0 name.now mode → ⊥) (λ mode. NamesMode graph.now pb.0 name.now mode) }
 {
-    mode_named(modes_in(graph.block_of(pb)), name)
-}
-
-/// The modes of a pb_type; a leaf has none.
-pub(crate) fn modes_in(block: &PbType) -> &[Mode]
-    ensures { result.now ≡ modes_of block.now.kind }
-{
-    match &block.kind {
-        Kind::InPad | Kind::OutPad | Kind::Lut | Kind::Latch | Kind::Cell(_) => &[],
-        Kind::Modes(modes) => modes.as_slice(),
-    }
-}
-
-/// The place of the first mode of that name.
-fn mode_named(modes: &[Mode], name: &[u8]) -> Option<u32>
-    requires { length modes.now < 2 ^ 32 }
-    ensures { MatchOption result ((k : ℕ) (is : Mode) → slice_get modes.now k ≡ Some is → name.now ≡ name_of_mode is → ⊥) (λ k. (is : Mode) × (slice_get modes.now k ≡ Some is) × (name.now ≡ name_of_mode is)) }
-{
-    for (k, mode) in modes.iter().enumerate() {
-        if mode.name.is(name) {
-            return Some(k as u32);
-        }
-    }
-    None
+    finder.modes(graph, pb, name).first().copied()
 }

@@ -1,22 +1,25 @@
-ghost use Rattle.std.specs.Prelude.{◌≡◌, ◌<◌, ◌≤◌, ◌^◌, ◌↔◌, ℕ, Some, IsTrue, MatchOption, length, slice_get};
+ghost use Rattle.std.specs.Prelude.{◌≡◌, ◌<◌, ◌↔◌, ℕ, IsTrue, MatchOption, length};
+ghost use Rattle.prog_map.specs.Table.{IsFinderOf};
 ghost use Rattle.prog_map.specs.NamedEdges.{IsEdgeWanted, ComesFrom};
 
-use crate::find::modes_in;
+use crate::find::Finder;
 use pb_expand::{EdgeIx, PbGraph, PbIx, PinIx};
 
 /// An edge into a pin in a mode of this name, from the source that is wanted where one is.
 pub(crate) fn find_edge(
     graph: &PbGraph,
+    finder: &Finder,
     pin: PinIx,
     mode: &[u8],
     wanted: Option<PinIx>,
 ) -> Option<EdgeIx>
-    requires { pin.0 < length graph.now.pins }
+    requires inside { pin.0 < length graph.now.pins }
+    requires of { IsFinderOf graph.now finder.now }
     ensures { MatchOption result ((edge : ℕ) → IsEdgeWanted graph.now edge pin.0 mode.now wanted → ⊥) (λ edge. IsEdgeWanted graph.now edge.0 pin.0 mode.now wanted) }
 {
     graph.law();
     let pb = graph.pin_at(pin).pb;
-    if let Some(edge) = find_own(graph, pin, pb, mode, wanted) {
+    if let Some(edge) = find_own(graph, finder, pin, pb, mode, wanted) {
         return Some(edge);
     }
     match graph.address_of(pb) {
@@ -28,6 +31,7 @@ pub(crate) fn find_edge(
 /// The same among the modes of the pin's own instance.
 fn find_own(
     graph: &PbGraph,
+    finder: &Finder,
     pin: PinIx,
     pb: PbIx,
     mode: &[u8],
@@ -35,13 +39,12 @@ fn find_own(
 ) -> Option<EdgeIx>
     requires pin { pin.0 < length graph.now.pins }
     requires pb { pb.0 < length graph.now.instances }
+    requires of { IsFinderOf graph.now finder.now }
     ensures { MatchOption result ((edge : ℕ) (is : IsEdgeWanted graph.now edge pin.0 mode.now wanted) → is.edge.owner.0 ≡ pb.0 → ⊥) (λ edge. IsEdgeWanted graph.now edge.0 pin.0 mode.now wanted) }
 {
-    for (number, own) in modes_in(graph.block_of(pb)).iter().enumerate() {
-        if own.name.is(mode) {
-            if let Some(edge) = find_in_mode(graph, pin, number as u32, mode, wanted) {
-                return Some(edge);
-            }
+    for number in finder.modes(graph, pb, mode) {
+        if let Some(edge) = find_in_mode(graph, pin, *number, mode, wanted) {
+            return Some(edge);
         }
     }
     None

@@ -1,9 +1,11 @@
-ghost use Rattle.std.specs.Prelude.{◌≡◌, IfOk, IfErr};
+ghost use Rattle.std.specs.Prelude.{◌≡◌, ℕ, Some, IfOk, IfErr, slice_get};
+ghost use Rattle.arch_types.specs.declared.block.PbType.{PbType};
 ghost use Rattle.prog_map.specs.Choices.{IsProgOf};
 ghost use Rattle.prog_map.specs.Laws.{SpellsOneProg, IsReadWhereSpelled, RefusesInOneWay};
 ghost use Rattle.prog_map.specs.Plain.{HasPlainNames};
 
 use crate::{Prog, ProgError, read_prog, write_prog};
+use arch_types::Arch;
 use pb_expand::PbGraph;
 use std::alloc::Global;
 
@@ -31,4 +33,12 @@ pub fn laws_of_the_text(graph: &PbGraph)
     ensures refused { HasPlainNames graph.now.root → RefusesInOneWay graph.now }
 {
     graph.law();
+}
+
+/// The names in each block type of an architecture are plain, so that the laws on the text of
+/// programmings hold of its graph. It does nothing.
+pub fn plain_names(arch: &Arch)
+    ensures { (n : ℕ) (root : PbType) → slice_get arch.now.blocks n ≡ Some root → HasPlainNames root }
+{
+    arch.law();
 }

@@ -74,7 +74,7 @@ fn mode_setting(
     let Some(pb) = block_named(graph, finder, instance) else {
         return Err(ProgError::NoSuchSite { line });
     };
-    match find_mode(graph, pb, mode) {
+    match find_mode(graph, finder, pb, mode) {
         Some(number) => Ok(Setting::Mode(pb, number)),
         None => Err(ProgError::NoSuchChoice { line }),
     }
@@ -97,13 +97,13 @@ fn pin_setting(
     let Some(pin) = finder.pin(graph, pin) else {
         return Err(ProgError::NoSuchSite { line });
     };
-    let Some(_) = find_edge(graph, pin, mode, None) else {
+    let Some(_) = find_edge(graph, finder, pin, mode, None) else {
         return Err(ProgError::NoSuchSite { line });
     };
     let Some(source) = finder.pin(graph, source) else {
         return Err(ProgError::NoSuchChoice { line });
     };
-    match find_edge(graph, pin, mode, Some(source)) {
+    match find_edge(graph, finder, pin, mode, Some(source)) {
         Some(edge) => Ok(Setting::Pick(pin, graph.edge(edge).mode, edge)),
         None => Err(ProgError::NoSuchChoice { line }),
     }

@@ -1,9 +1,8 @@
-ghost use Rattle.std.specs.Prelude.{◌≡◌, IfOk, length};
 ghost use Rattle.prog_map.specs.Choices.{IsProgOf};
 
 use crate::{Prog, ProgError, follow, last_pin, read_back, read_prog, write_prog};
-use arch_types::{Arch, Inter, InterKind, Kind, Mode, PbType, Port, Side};
-use pb_expand::{ExpandError, PbGraph, PinIx, expand};
+use arch_types::{Inter, InterKind, Kind, Mode, PbType, Port, Side};
+use pb_expand::{ExpandError, PbGraph, PinIx, graph_of};
 use sqlite_items::Items;
 use std::alloc::{AllocError, Global};
 use std::test::Fail;
@@ -71,10 +70,13 @@ fn with_mode(
     Ok(modes)
 }
 
-/// An architecture with one block type, which has these modes.
-fn arch(alloc: Global, name: &str, inputs: u32, modes: Items<Mode>) -> Result<Arch, AllocError>
-    ensures { IfOk result (λ a. length a.blocks ≡ 1) }
-{
+/// The graph of a block type that has these modes.
+fn graph_with(
+    alloc: Global,
+    name: &str,
+    inputs: u32,
+    modes: Items<Mode>,
+) -> Result<PbGraph, ExpandError> {
     let block = PbType {
         name: Text::from_str(alloc, name)?,
         count: 1,
@@ -82,14 +84,7 @@ fn arch(alloc: Global, name: &str, inputs: u32, modes: Items<Mode>) -> Result<Ar
         kind: Kind::Modes(modes),
         metas: Items::new(alloc),
     };
-    let mut blocks = Items::new(alloc);
-    blocks.push(block)?;
-    Ok(Arch {
-        models: Items::new(alloc),
-        tiles: Items::new(alloc),
-        layouts: Items::new(alloc),
-        blocks,
-    })
+    graph_of(alloc, &block, 0)
 }
 
 /// A LUT that one of two inputs feeds. Its pins are 0 and 1, `blk.in`, 2, `blk.out[0]`, 3, the
@@ -109,7 +104,7 @@ fn one_lut(alloc: Global) -> Result<PbGraph, ExpandError> {
         lut(alloc, "lut", 1)?,
         wires,
     )?;
-    expand(alloc, &arch(alloc, "blk", 2, modes)?, 0)
+    graph_with(alloc, "blk", 2, modes)
 }
 
 /// Two LUTs, each of which feeds the other. Pins 2 and 3 are those of the first LUT, 4 and 5 those
@@ -129,7 +124,7 @@ fn ring(alloc: Global) -> Result<PbGraph, ExpandError> {
         lut(alloc, "lut", 2)?,
         wires,
     )?;
-    expand(alloc, &arch(alloc, "ring", 1, modes)?, 0)
+    graph_with(alloc, "ring", 1, modes)
 }
 
 /// A block with a LUT in each of two modes.
@@ -150,7 +145,7 @@ fn two_modes(alloc: Global) -> Result<PbGraph, ExpandError> {
     )?;
     let modes = with_mode(alloc, Items::new(alloc), "one", lut(alloc, "a", 1)?, first)?;
     let modes = with_mode(alloc, modes, "two", lut(alloc, "b", 1)?, second)?;
-    expand(alloc, &arch(alloc, "fl", 1, modes)?, 0)
+    graph_with(alloc, "fl", 1, modes)
 }
 
 /// The pin that is one step back.
