@@ -1,6 +1,6 @@
 use crate::run;
-use arch_files::read_arch;
-use arch_types::walk;
+use arch_files::{ArchError, read_arch};
+use arch_types::{Arch, walk};
 use pb_expand::{EdgeIx, PbIx, PinIx, expand};
 use shelf_kit::{MemShelf, MemSink};
 use std::alloc::{AllocError, Global};
@@ -166,10 +166,18 @@ fn long_files(rt: HostRuntime) -> Result<(), Fail> {
     Ok(())
 }
 
+/// The architecture of one LUT.
+fn one_lut(alloc: Global) -> Result<Arch, ArchError> {
+    if ONE.len() > u32::MAX as usize {
+        return Err(ArchError::OutOfMemory);
+    }
+    read_arch(alloc, ONE.as_bytes())
+}
+
 #[test]
 fn graph_of_one_lut(rt: HostRuntime) -> Result<(), Fail> {
     let alloc = rt.alloc();
-    let arch = read_arch(alloc, ONE.as_bytes())?;
+    let arch = one_lut(alloc)?;
     assert_eq!(rt; arch.blocks.len(), 1);
     let graph = expand(alloc, &arch, 0)?;
     assert_eq!(rt; graph.block(), 0);
@@ -187,7 +195,7 @@ fn graph_of_one_lut(rt: HostRuntime) -> Result<(), Fail> {
 #[test]
 fn preorder_of_one_lut(rt: HostRuntime) -> Result<(), Fail> {
     let alloc = rt.alloc();
-    let arch = read_arch(alloc, ONE.as_bytes())?;
+    let arch = one_lut(alloc)?;
     assert_eq!(rt; arch.blocks.len(), 1);
     let blocks = walk(alloc, &arch.blocks.as_slice()[0])?;
     assert_eq!(rt; blocks.len(), 2);

@@ -1,4 +1,4 @@
-ghost use Rattle.std.specs.Prelude.{◌≡◌, ◌<◌, ℕ, Some, IfOk, IfErr, MatchOption, length, slice_get};
+ghost use Rattle.std.specs.Prelude.{◌≡◌, ◌<◌, ◌^◌, ℕ, Some, IfOk, IfErr, MatchOption, length, slice_get};
 ghost use Rattle.vtr_base.specs.Lists.{IsFirstPlace};
 ghost use Rattle.arch_files.specs.Files.{SpellsArch};
 ghost use Rattle.vtr_top.specs.Inputs.{AreGraphs, IsGraphOf, IsTextOf, names_of, IsTraced};
@@ -39,6 +39,7 @@ pub fn trace<S: Shelf>(
 
 /// The architecture that the bytes of its file spell.
 fn architecture_of(alloc: Global, arch: &str, bytes: &[u8]) -> Result<Arch, Stop>
+    requires few { length bytes.now < 2 ^ 32 }
     ensures spells { IfOk result (λ a. SpellsArch bytes.now a) }
     ensures stopped { IfErr result (IsArchStop bytes.now arch.now) }
 {
@@ -62,17 +63,14 @@ fn graphs_of(alloc: Global, arch: &str, architecture: &Arch) -> Result<Vec<PbGra
     Ok(graphs)
 }
 
-/// The graph of one block type. A file has too few bytes for 2^32 block types; the answer for so
-/// many is want of memory.
+/// The graph of one block type.
 fn graph_of(alloc: Global, arch: &str, architecture: &Arch, number: usize) -> Result<PbGraph, Stop>
     requires { number < length architecture.now.blocks }
     ensures graph { IfOk result (IsGraphOf architecture.now number) }
     ensures stopped { IfErr result (IsGraphStop architecture.now number arch.now) }
 {
-    let Ok(block) = u32::try_from(number) else {
-        return Err(Stop::Memory);
-    };
-    match expand(alloc, architecture, block) {
+    architecture.law();
+    match expand(alloc, architecture, number as u32) {
         Ok(graph) => {
             graph.law();
             Ok(graph)

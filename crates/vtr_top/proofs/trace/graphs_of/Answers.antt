@@ -1,5 +1,6 @@
-use Rattle.std.proofs.Common.{◌+◌, arith, sym, subst}
+use Rattle.std.proofs.Common.{◌+◌, arith, sym, subst, ap, length}
 use Rattle.std.proofs.lemmas.Result.{err_from_is_err_and}
+use Rattle.arch_types.specs.declared.arch.ArchParts.{ArchParts}
 use Rattle.vtr_top.proofs.Graphs.{AreGraphsSoFar, one_graph_more, first_unexpanded}
 use Rattle.vtr_top.proofs.trace.graphs_of.Goals as goal
 
@@ -12,4 +13,4 @@ pub returns-in_err-graph-clause-stopped : goal.returns-in_err-graph-clause-stopp
 returns-in_err-graph-clause-stopped c =
     let p = err_from_is_err_and c.from_residual.result c.from_residual.ensures.1 in
     rw (p.1, p.2) (first_unexpanded c.args.architecture.now c.loop-number.number c.loop-number.graphs.items c.args.arch.now c.in_err-graph.field-0.0 c.loop-number.invariant
-    (omega (arith, c.len-number-end.ensures, c.loop-number-test.true)) c.in_err-graph.ensures.stopped)
+    (omega (arith, c.len-number-end.ensures, c.loop-number-test.true, ap (λ (a : ArchParts). length a.blocks) c.architecture.view_is)) c.in_err-graph.ensures.stopped)
