@@ -1,0 +1,5 @@
+mod Cutting
+mod Numbering
+pub mod Spanning
+mod Trimming
+mod Wording

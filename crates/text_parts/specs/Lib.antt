@@ -1,0 +1,4 @@
+pub mod Numerals
+pub mod Seen
+pub mod Trims
+pub mod Words
