@@ -5,6 +5,7 @@
 mod error;
 mod laws;
 mod read;
+mod telling;
 #[cfg(test)]
 mod tests;
 
