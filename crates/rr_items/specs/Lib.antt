@@ -1,0 +1,5 @@
+pub mod Ends
+pub mod Grid
+pub mod Ground
+pub mod NodeItems
+pub mod Switches
