@@ -5,24 +5,27 @@ use Rattle.vtr_base.specs.Lists.{Has}
 use Rattle.arch_types.specs.declared.block.PbType.{PbType}
 use Rattle.arch_types.specs.declared.block.Mode.{Mode}
 use Rattle.arch_types.specs.declared.block.Inter.{Inter}
+use Rattle.arch_types.specs.declared.block.InterKind.{InterKind}
+use Rattle.arch_types.specs.declared.block.InterKind.TheVariants.{Direct, Complete, Mux}
 use Rattle.arch_types.specs.Tree.{inters_of}
 use Rattle.mode_edges.specs.declared.pin.LocalPin.{LocalPin}
 use Rattle.mode_edges.specs.declared.pin.LocalEdge.{LocalEdge}
 use Rattle.mode_edges.specs.declared.pin.Role.TheVariants.{Source, End}
 use Rattle.mode_edges.specs.PinWords.{ReadsPins}
-use Rattle.mode_edges.specs.Edges.{IsPairFrom, GivesFrom, IsEdge, ComesFrom, AreEdges, HasMoreEdges}
+use Rattle.mode_edges.specs.Edges.{IsPairFrom, GivesFrom, IsEdge, EdgePlace, IsBefore, IsPairTo, GivesAt, StandsAt, StandsBefore, AreEdges, HasMoreEdges}
 use Rattle.mode_edges.specs.Faults.{NamesPins, IsSound}
 use Rattle.mode_edges.specs.Gathered.{AddsInter}
 use Rattle.mode_edges.specs.Pairs.{with_edges, given_by}
 use Rattle.mode_edges.proofs.Gathering.{edge, no_fewer}
-use Rattle.mode_edges.proofs.Givens.{given, givens, givens_edges, givens_order, givens_has, givens_all}
-use Rattle.mode_edges.proofs.Kept.{Given, edges_at, NotAfter, SamePins, InOrder, Apart, has_left, has_right, has_split, in_order_both, has_edge, edge_from, IsKept, kept_none, kept_all, one_kept}
+use Rattle.mode_edges.proofs.Givens.{given, givens, givens_edges, givens_order, IsPairAt, givens_has, givens_all}
+use Rattle.mode_edges.proofs.OneList.{place_in}
+use Rattle.mode_edges.proofs.Kept.{Given, at, edges_at, SamePins, InOrder, Apart, has_at, has_left, has_right, has_split, in_order_both, has_edge, edge_from, IsKept, kept_none, kept_all, one_kept}
 use Rattle.mode_edges.proofs.OneMeaning.{reads_one}
 
 -- what the interconnects below n give, in order
 pub record AreGiven (block : PbType) (mode : Mode) (n : ℕ) (seen : List Given) : Type 0 where
-  pub gives : (g : Given) → Has seen g → GivesFrom block mode g.edge.inter g.place g.edge.src g.edge.dst × (g.edge.inter < n)
-  pub all : (k place : ℕ) (s d : LocalPin) → k < n → GivesFrom block mode k place s d → Has seen (given k place s d)
+  pub gives : (g : Given) → Has seen g → GivesAt block mode (at g) g.edge.src g.edge.dst × (g.edge.inter < n)
+  pub all : (place : EdgePlace) (s d : LocalPin) → place.inter < n → GivesAt block mode place s d → Has seen (given place.inter place.source place.end s d)
   pub sorted : InOrder seen
 
 -- the edges of the interconnects below n
@@ -34,28 +37,39 @@ pub record EdgesTo (block : PbType) (mode : Mode) (n : ℕ) (edges : List LocalE
 pub edges_none : (block : PbType) (mode : Mode) → EdgesTo block mode 0 []
 edges_none block mode = record {
   seen = [];
-  given = record { gives = λ g h. absurd h; all = λ k place s d less. absurd (omega arith); sorted = tt };
+  given = record { gives = λ g h. absurd h; all = λ place s d less. absurd (omega arith); sorted = tt };
   kept = kept_none;
 }
 
 -- an interconnect gives the pairs of its pins
-gives_read : (block : PbType) (mode : Mode) (n : ℕ) (here : Inter) (ins outs : List LocalPin) → slice_get (inters_of mode) n ≡ Some here →
-    NamesPins block mode here ins outs → (place : ℕ) (s d : LocalPin) → IsPairFrom here.kind ins outs place s d → GivesFrom block mode n place s d
-gives_read block mode n here ins outs is names place s d pair =
-    record { here = here; is = is; ins = ins; outs = outs; reads_ins = names.reads_ins; reads_outs = names.reads_outs; pair = pair }
+gives_read : (block : PbType) (mode : Mode) (here : Inter) (ins outs : List LocalPin) (place : EdgePlace) → slice_get (inters_of mode) place.inter ≡ Some here →
+    NamesPins block mode here ins outs → (s d : LocalPin) → IsPairAt here.kind ins outs place.source place.end s d → GivesAt block mode place s d
+gives_read block mode here ins outs place is names s d pair = record {
+  from = record { here = here; is = is; ins = ins; outs = outs; reads_ins = names.reads_ins; reads_outs = names.reads_outs; pair = pair.from };
+  to = pair.to;
+}
 
-read_gives : (block : PbType) (mode : Mode) (n : ℕ) (here : Inter) (ins outs : List LocalPin) → slice_get (inters_of mode) n ≡ Some here →
-    NamesPins block mode here ins outs → (place : ℕ) (s d : LocalPin) → GivesFrom block mode n place s d → IsPairFrom here.kind ins outs place s d
-read_gives block mode n here ins outs is names place s d g =
+read_gives : (block : PbType) (mode : Mode) (here : Inter) (ins outs : List LocalPin) (place : EdgePlace) → slice_get (inters_of mode) place.inter ≡ Some here →
+    NamesPins block mode here ins outs → (s d : LocalPin) → GivesAt block mode place s d → IsPairAt here.kind ins outs place.source place.end s d
+read_gives block mode here ins outs place is names s d gives =
+    let g = gives.from in
     let same : g.here ≡ here = cc (g.is, is) in
     let ins_are = reads_one block mode Source here.input g.ins ins (subst (λ (x : Inter). ReadsPins block mode Source x.input g.ins) same g.reads_ins) names.reads_ins in
     let outs_are = reads_one block mode End here.output g.outs outs (subst (λ (x : Inter). ReadsPins block mode End x.output g.outs) same g.reads_outs) names.reads_outs in
-    subst (λ (x : Inter). IsPairFrom x.kind ins outs place s d) same
-    (subst (λ (l : List LocalPin). IsPairFrom g.here.kind l outs place s d) ins_are
-    (subst (λ (l : List LocalPin). IsPairFrom g.here.kind g.ins l place s d) outs_are g.pair))
+    subst (λ (x : Inter). IsPairAt x.kind ins outs place.source place.end s d) same
+    (subst (λ (l : List LocalPin). IsPairAt g.here.kind l outs place.source place.end s d) ins_are
+    (subst (λ (l : List LocalPin). IsPairAt g.here.kind g.ins l place.source place.end s d) outs_are (record { from = g.pair; to = gives.to })))
 
 less_or_same : (k n : ℕ) → k < n + 1 → (k < n) ⊎ (k ≡ n)
 less_or_same k n less = grind arith
+
+-- what was given so far is given before what one more interconnect gives
+given_before : (block : PbType) (mode : Mode) (n : ℕ) (here : Inter) (ins outs : List LocalPin) (seen : List Given) → AreGiven block mode n seen → (x y : Given) → Has seen x →
+    Has (givens here.kind n ins outs) y → IsBefore (at x) (at y)
+given_before block mode n here ins outs seen so_far x y in_seen in_new =
+    let less = (so_far.gives x in_seen).1 in
+    let owner = (givens_has here.kind n ins outs y in_new).0 in
+    inl (omega (arith, less, owner))
 
 given_more : (block : PbType) (mode : Mode) (n : ℕ) (here : Inter) (ins outs : List LocalPin) (seen : List Given) → slice_get (inters_of mode) n ≡ Some here →
     NamesPins block mode here ins outs → AreGiven block mode n seen → AreGiven block mode (n + 1) (seen ++ givens here.kind n ins outs)
@@ -64,36 +78,30 @@ given_more block mode n here ins outs seen is names so_far = record {
     | inl before ↦ let b = so_far.gives g before in let less = b.1 in (b.0, omega (arith, less))
     | inr last ↦ fresh g last
   ];
-  all = λ k place s d less gives. elim (less_or_same k n less) [
-    | inl before ↦ has_left seen new (given k place s d) (so_far.all k place s d before gives)
-    | inr same ↦ has_right seen new (given k place s d) (here_given k place s d same gives)
+  all = λ place s d less gives. elim (less_or_same place.inter n less) [
+    | inl before ↦ has_left seen new (given place.inter place.source place.end s d) (so_far.all place s d before gives)
+    | inr same ↦ has_right seen new (given place.inter place.source place.end s d) (here_given place s d same gives)
   ];
-  sorted = in_order_both seen new so_far.sorted (givens_order here.kind n ins outs) (λ x y in_seen in_new. before x y in_seen in_new);
+  sorted = in_order_both seen new so_far.sorted (givens_order here.kind n ins outs) (λ x y in_seen in_new. given_before block mode n here ins outs seen so_far x y in_seen in_new);
 }
   where
     new : List Given
     new = givens here.kind n ins outs
 
-    fresh : (g : Given) → Has (givens here.kind n ins outs) g → GivesFrom block mode g.edge.inter g.place g.edge.src g.edge.dst × (g.edge.inter < n + 1)
+    there : (m : ℕ) → m ≡ n → slice_get (inters_of mode) m ≡ Some here
+    there m same = subst (λ (k : ℕ). slice_get (inters_of mode) k ≡ Some here) (sym same) is
+
+    fresh : (g : Given) → Has (givens here.kind n ins outs) g → GivesAt block mode (at g) g.edge.src g.edge.dst × (g.edge.inter < n + 1)
     fresh g h =
         let p = givens_has here.kind n ins outs g h in
-        let owner = p.0 in (
-          subst (λ (m : ℕ). GivesFrom block mode m g.place g.edge.src g.edge.dst) (sym owner)
-              (gives_read block mode n here ins outs is names g.place g.edge.src g.edge.dst p.1),
-          omega (arith, owner),
-        )
+        let owner = p.0 in
+        (gives_read block mode here ins outs (at g) (there g.edge.inter owner) names g.edge.src g.edge.dst p.1, omega (arith, owner))
 
-    here_given : (k place : ℕ) (s d : LocalPin) → k ≡ n → GivesFrom block mode k place s d → Has (givens here.kind n ins outs) (given k place s d)
-    here_given k place s d same gives =
-        subst (λ (m : ℕ). Has (givens here.kind n ins outs) (given m place s d)) (sym same)
-        (givens_all here.kind n place ins outs s d
-        (read_gives block mode n here ins outs is names place s d (subst (λ (m : ℕ). GivesFrom block mode m place s d) same gives)))
-
-    before : (x y : Given) → Has seen x → Has (givens here.kind n ins outs) y → NotAfter x y
-    before x y in_seen in_new =
-        let less = (so_far.gives x in_seen).1 in
-        let owner = (givens_has here.kind n ins outs y in_new).0 in
-        record { owner = omega (arith, less, owner); place = λ same. absurd (omega (arith, less, owner, same)) }
+    here_given : (place : EdgePlace) (s d : LocalPin) → place.inter ≡ n → GivesAt block mode place s d →
+        Has (givens here.kind n ins outs) (given place.inter place.source place.end s d)
+    here_given place s d same gives =
+        subst (λ (m : ℕ). Has (givens here.kind n ins outs) (given m place.source place.end s d)) (sym same)
+        (givens_all here.kind n place.source place.end ins outs s d (read_gives block mode here ins outs place (there place.inter same) names s d gives))
 
 -- one more interconnect
 pub edges_more : (block : PbType) (mode : Mode) (n : ℕ) (here : Inter) (ins outs : List LocalPin) (old new : List LocalEdge) → slice_get (inters_of mode) n ≡ Some here →
@@ -103,10 +111,7 @@ edges_more block mode n here ins outs old new is names added so_far = record {
   given = given_more block mode n here ins outs so_far.seen is names so_far.given;
   kept = subst (IsKept (so_far.seen ++ givens here.kind n ins outs)) (ap (with_edges old) (givens_edges here.kind n ins outs) ∙ sym added)
       (kept_all so_far.seen old (givens here.kind n ins outs) so_far.kept (givens_order here.kind n ins outs)
-      (λ h g in_seen in_new.
-      let less = (so_far.given.gives h in_seen).1 in
-      let owner = (givens_has here.kind n ins outs g in_new).0 in
-      record { owner = omega (arith, less, owner); place = λ same. absurd (omega (arith, less, owner, same)) }));
+      (given_before block mode n here ins outs so_far.seen so_far.given));
 }
 
 -- the edges of a mode by their places
@@ -114,11 +119,6 @@ at_place : (gs : List Given) (i : ℕ) (e : LocalEdge) → slice_get (edges_at g
 at_place [] i e at = cc
 at_place (g ∷ gs) zero e at = let is : e ≡ g.edge = cc in (g, is, refl)
 at_place (g ∷ gs) (suc i) e at = at_place gs i e at
-
-has_at : (gs : List Given) (i : ℕ) (g : Given) → slice_get gs i ≡ Some g → Has gs g
-has_at [] i g at = cc
-has_at (x ∷ gs) zero g at = inl (cc)
-has_at (x ∷ gs) (suc i) g at = inr (has_at gs i g at)
 
 places_apart : (gs : List Given) (i j : ℕ) (g h : Given) → Apart gs → slice_get gs i ≡ Some g → slice_get gs j ≡ Some h → SamePins g.edge h.edge → i ≡ j
 places_apart [] i j g h a at_i at_j same = cc
@@ -131,48 +131,71 @@ places_apart (x ∷ gs) (suc i) zero g h a at_i at_j same =
     absurd (a.0 g (has_at gs i g at_i) (ap (λ (y : Given). y.edge.src) is ∙ sym same.0, ap (λ (y : Given). y.edge.dst) is ∙ sym same.1))
 places_apart (x ∷ gs) (suc i) (suc j) g h a at_i at_j same = ap suc (places_apart gs i j g h a.1 at_i at_j same)
 
-places_in_order : (gs : List Given) (i j : ℕ) (g h : Given) → InOrder gs → i < j → slice_get gs i ≡ Some g → slice_get gs j ≡ Some h → NotAfter g h
+places_in_order : (gs : List Given) (i j : ℕ) (g h : Given) → InOrder gs → i < j → slice_get gs i ≡ Some g → slice_get gs j ≡ Some h → IsBefore (at g) (at h)
 places_in_order [] i j g h order less at_i at_j = cc
 places_in_order (x ∷ gs) i zero g h order less at_i at_j = absurd (omega arith)
 places_in_order (x ∷ gs) zero (suc j) g h order less at_i at_j =
     let is : x ≡ g = cc in
-    subst (λ (y : Given). NotAfter y h) is (order.0 h (has_at gs j h at_j))
+    subst (λ (y : Given). IsBefore (at y) (at h)) is (order.0 h (has_at gs j h at_j))
 places_in_order (x ∷ gs) (suc i) (suc j) g h order less at_i at_j = places_in_order gs i j g h order.1 (omega arith) at_i at_j
 
--- what is kept for a pair that an interconnect gives
-kept_for : (block : PbType) (mode : Mode) (n : ℕ) (edges : List LocalEdge) (t : EdgesTo block mode n edges) (k place : ℕ) (s d : LocalPin) → k < n →
-    GivesFrom block mode k place s d → (g : Given) × Has t.kept.kept g × SamePins g.edge (edge k s d) × NotAfter g (given k place s d)
-kept_for block mode n edges t k place s d less gives = t.kept.covers (given k place s d) (t.given.all k place s d less gives)
+-- a pair that an interconnect gives from a place has a place to which it gives it
+gives_to : (block : PbType) (mode : Mode) (inter source : ℕ) (s d : LocalPin) → GivesFrom block mode inter source s d →
+    (end : ℕ) × GivesAt block mode (record { inter = inter; source = source; end = end }) s d
+gives_to block mode inter source s d from = let to = go from.here.kind from.pair in (to.0, record { from = from; to = to.1 })
+  where
+    go : (kind : InterKind) → IsPairFrom kind from.ins from.outs source s d → (end : ℕ) × IsPairTo kind from.outs source end d
+    go Direct pair = (source, refl)
+    go Complete pair = place_in from.outs d pair.1
+    go Mux pair = place_in from.outs d pair.1
+
+-- what is kept for a pair that is given at a place
+kept_for : (block : PbType) (mode : Mode) (n : ℕ) (edges : List LocalEdge) (t : EdgesTo block mode n edges) (place : EdgePlace) (s d : LocalPin) → place.inter < n →
+    GivesAt block mode place s d → (g : Given) × Has t.kept.kept g × SamePins g.edge (edge place.inter s d) × (IsBefore place (at g) → ⊥)
+kept_for block mode n edges t place s d less gives = t.kept.covers (given place.inter place.source place.end s d) (t.given.all place s d less gives)
+
+-- an edge that is kept is given at no place before its own
+none_before : (block : PbType) (mode : Mode) (n : ℕ) (edges : List LocalEdge) (t : EdgesTo block mode n edges) (g : Given) → Has t.kept.kept g → (place : EdgePlace) →
+    IsBefore place (at g) → GivesAt block mode place g.edge.src g.edge.dst → ⊥
+none_before block mode n edges t g h place before gives =
+    let below = (t.given.gives g (t.kept.from g h)).1 in
+    let f = kept_for block mode n edges t place g.edge.src g.edge.dst (inside below before) gives in
+    let same = one_kept t.kept.kept f.0 g t.kept.apart f.1 h f.2 in
+    f.3 (subst (λ (x : Given). IsBefore place (at x)) (sym same) before)
+  where
+    inside : g.edge.inter < n → IsBefore place (at g) → place.inter < n
+    inside below (inl less) = omega (arith, below, less)
+    inside below (inr (same, more)) = omega (arith, below, same)
+
+stands_at : (block : PbType) (mode : Mode) (n : ℕ) (edges : List LocalEdge) (t : EdgesTo block mode n edges) (g : Given) → Has t.kept.kept g → StandsAt block mode g.edge (at g)
+stands_at block mode n edges t g h =
+    record { owner = refl; gives = (t.given.gives g (t.kept.from g h)).0; first = none_before block mode n edges t g h }
 
 is_edge : (block : PbType) (mode : Mode) (n : ℕ) (edges : List LocalEdge) (t : EdgesTo block mode n edges) (g : Given) → Has t.kept.kept g →
     IsEdge block mode g.edge.inter g.edge.src g.edge.dst
-is_edge block mode n edges t g h =
-    let gives = t.given.gives g (t.kept.from g h) in
-    let below = gives.1 in
-    record {
-      gives = (g.place, gives.0);
-      first = λ k less other.
-          let f = kept_for block mode n edges t k other.0 g.edge.src g.edge.dst (omega (arith, below, less)) other.1 in
-          let same = one_kept t.kept.kept f.0 g t.kept.apart f.1 h f.2 in
-          let owner : f.0.edge.inter ≡ g.edge.inter = ap (λ (y : Given). y.edge.inter) same in
-          let before = f.3.owner in
-          absurd (omega (arith, owner, before, less));
-    }
+is_edge block mode n edges t g h = record {
+  gives = (g.source, (t.given.gives g (t.kept.from g h)).0.from);
+  first = λ k less other.
+      let to = gives_to block mode k other.0 g.edge.src g.edge.dst other.1 in
+      none_before block mode n edges t g h (record { inter = k; source = other.0; end = to.0 }) (inl less) to.1;
+}
 
-inter_below : (block : PbType) (mode : Mode) (n k place : ℕ) (s d : LocalPin) → length (inters_of mode) ≤ n → GivesFrom block mode k place s d → k < n
-inter_below block mode n k place s d end gives = omega (arith, slice_get_within (inters_of mode) k gives.here gives.is)
+inter_below : (block : PbType) (mode : Mode) (n : ℕ) (place : EdgePlace) (s d : LocalPin) → length (inters_of mode) ≤ n → GivesAt block mode place s d → place.inter < n
+inter_below block mode n place s d end gives = omega (arith, slice_get_within (inters_of mode) place.inter gives.from.here gives.from.is)
 
 has_all : (block : PbType) (mode : Mode) (n : ℕ) (edges : List LocalEdge) (t : EdgesTo block mode n edges) → length (inters_of mode) ≤ n → (inter : ℕ) (s d : LocalPin) →
     IsEdge block mode inter s d → Has edges (edge inter s d)
 has_all block mode n edges t end inter s d is =
-    let f = kept_for block mode n edges t inter is.gives.0 s d (inter_below block mode n inter is.gives.0 s d end is.gives.1) is.gives.1 in
+    let to = gives_to block mode inter is.gives.0 s d is.gives.1 in
+    let place : EdgePlace = record { inter = inter; source = is.gives.0; end = to.0 } in
+    let f = kept_for block mode n edges t place s d (inter_below block mode n place s d end to.1) to.1 in
     let g = f.0 in
     let here = t.given.gives g (t.kept.from g f.1) in
-    let gives : GivesFrom block mode g.edge.inter g.place s d =
-    subst (λ (x : LocalPin). GivesFrom block mode g.edge.inter g.place x d) f.2.0
-    (subst (λ (x : LocalPin). GivesFrom block mode g.edge.inter g.place g.edge.src x) f.2.1 here.0) in
-    let not_later = f.3.owner in
-    let not_before : g.edge.inter < inter → ⊥ = λ less. is.first g.edge.inter less (g.place, gives) in
+    let gives : GivesFrom block mode g.edge.inter g.source s d =
+    subst (λ (x : LocalPin). GivesFrom block mode g.edge.inter g.source x d) f.2.0
+    (subst (λ (x : LocalPin). GivesFrom block mode g.edge.inter g.source g.edge.src x) f.2.1 here.0.from) in
+    let not_later : inter < g.edge.inter → ⊥ = λ less. f.3 (inl less) in
+    let not_before : g.edge.inter < inter → ⊥ = λ less. is.first g.edge.inter less (g.source, gives) in
     let owner : g.edge.inter ≡ inter = omega arith in
     let same : g.edge ≡ edge inter s d =
     ap (λ (x : LocalPin). edge g.edge.inter x g.edge.dst) f.2.0
@@ -180,20 +203,15 @@ has_all block mode n edges t end inter s d is =
     subst (λ (l : List LocalEdge). Has l (edge inter s d)) (sym t.kept.is)
     (subst (Has (edges_at t.kept.kept)) same (has_edge t.kept.kept g f.1))
 
--- two edges of one owner stand in the order of the places from which they come
-in_turn : (block : PbType) (mode : Mode) (n : ℕ) (edges : List LocalEdge) (t : EdgesTo block mode n edges) (g h : Given) (p q : ℕ) → Has t.kept.kept g → Has t.kept.kept h →
-    NotAfter g h → g.edge.inter ≡ h.edge.inter → ComesFrom block mode g.edge p → ComesFrom block mode h.edge q → p ≤ q
-in_turn block mode n edges t g h p q in_g in_h order owner from_g from_h =
-    let g_given = (t.given.gives g (t.kept.from g in_g)).0 in
-    let h_below = (t.given.gives h (t.kept.from h in_h)).1 in
-    let early : g.place < p → ⊥ = λ less. from_g.first g.place less g_given in
-    let f = kept_for block mode n edges t h.edge.inter q h.edge.src h.edge.dst h_below from_h.gives in
-    let same = one_kept t.kept.kept f.0 h t.kept.apart f.1 in_h f.2 in
-    let f_owner : f.0.edge.inter ≡ h.edge.inter = ap (λ (y : Given). y.edge.inter) same in
-    let f_place : f.0.place ≡ h.place = ap (λ (y : Given). y.place) same in
-    let late = f.3.place f_owner in
-    let between = order.place owner in
-    omega arith
+stand_before : (block : PbType) (mode : Mode) (n : ℕ) (edges : List LocalEdge) (t : EdgesTo block mode n edges) (g h : Given) → Has t.kept.kept g → Has t.kept.kept h →
+    IsBefore (at g) (at h) → StandsBefore block mode g.edge h.edge
+stand_before block mode n edges t g h in_g in_h before = record {
+  at = at g;
+  next = at h;
+  stands = stands_at block mode n edges t g in_g;
+  follows = stands_at block mode n edges t h in_h;
+  before = before;
+}
 
 -- the edges of all interconnects are those of the mode
 pub edges_all : (block : PbType) (mode : Mode) (n : ℕ) (edges : List LocalEdge) → length (inters_of mode) ≤ n → EdgesTo block mode n edges → AreEdges block mode edges
@@ -203,28 +221,21 @@ edges_all block mode n edges end t = record {
       subst (λ (x : LocalEdge). IsEdge block mode x.inter x.src x.dst) (sym f.2) (is_edge block mode n edges t f.0 f.1);
   all = has_all block mode n edges t end;
   once = λ i j e f at_i at_j src dst.
-      let g = at_place t.kept.kept i e (at e i at_i) in
-      let h = at_place t.kept.kept j f (at f j at_j) in
+      let g = at_place t.kept.kept i e (there e i at_i) in
+      let h = at_place t.kept.kept j f (there f j at_j) in
       places_apart t.kept.kept i j g.0 h.0 t.kept.apart g.2 h.2
       (sym (ap (λ (x : LocalEdge). x.src) g.1) ∙ (src ∙ ap (λ (x : LocalEdge). x.src) h.1), sym (ap (λ (x : LocalEdge). x.dst) g.1) ∙ (dst ∙ ap (λ (x : LocalEdge). x.dst) h.1));
   ordered = λ i j e f less at_i at_j.
-      let g = at_place t.kept.kept i e (at e i at_i) in
-      let h = at_place t.kept.kept j f (at f j at_j) in
-      let order = (places_in_order t.kept.kept i j g.0 h.0 t.kept.sorted less g.2 h.2).owner in
-      let e_is : e.inter ≡ g.0.edge.inter = ap (λ (x : LocalEdge). x.inter) g.1 in
-      let f_is : f.inter ≡ h.0.edge.inter = ap (λ (x : LocalEdge). x.inter) h.1 in
-      omega (arith, order, e_is, f_is);
-  in_turn = λ i j e f p q less at_i at_j owner from_e from_f.
-      let g = at_place t.kept.kept i e (at e i at_i) in
-      let h = at_place t.kept.kept j f (at f j at_j) in
-      in_turn block mode n edges t g.0 h.0 p q (has_at t.kept.kept i g.0 g.2) (has_at t.kept.kept j h.0 h.2)
-      (places_in_order t.kept.kept i j g.0 h.0 t.kept.sorted less g.2 h.2)
-      (sym (ap (λ (x : LocalEdge). x.inter) g.1) ∙ (owner ∙ ap (λ (x : LocalEdge). x.inter) h.1))
-      (subst (λ (x : LocalEdge). ComesFrom block mode x p) g.1 from_e) (subst (λ (x : LocalEdge). ComesFrom block mode x q) h.1 from_f);
+      let g = at_place t.kept.kept i e (there e i at_i) in
+      let h = at_place t.kept.kept j f (there f j at_j) in
+      subst (λ (x : LocalEdge). StandsBefore block mode x f) (sym g.1)
+      (subst (λ (x : LocalEdge). StandsBefore block mode g.0.edge x) (sym h.1)
+      (stand_before block mode n edges t g.0 h.0 (has_at t.kept.kept i g.0 g.2) (has_at t.kept.kept j h.0 h.2)
+      (places_in_order t.kept.kept i j g.0 h.0 t.kept.sorted less g.2 h.2)));
 }
   where
-    at : (e : LocalEdge) (i : ℕ) → slice_get edges i ≡ Some e → slice_get (edges_at t.kept.kept) i ≡ Some e
-    at e i is = subst (λ (l : List LocalEdge). slice_get l i ≡ Some e) t.kept.is is
+    there : (e : LocalEdge) (i : ℕ) → slice_get edges i ≡ Some e → slice_get (edges_at t.kept.kept) i ≡ Some e
+    there e i is = subst (λ (l : List LocalEdge). slice_get l i ≡ Some e) t.kept.is is
 
 some_at : {X : Type 0} (xs : List X) (n : ℕ) → n < length xs → (x : X) × (slice_get xs n ≡ Some x)
 some_at [] n inside = absurd (omega arith)

@@ -1,18 +1,16 @@
 -- A map from names to places: what it finds, and how it grows.
-use Rattle.std.proofs.Common.{◌≡◌, ◌<◌, ◌≤◌, ◌+◌, ◌⊎◌, inl, inr, ℕ, suc, zero, List, [], ◌∷◌, ◌++◌, Bool, true, false, cond, nat_eq, Option, Some, None, is_some, Bor, map, length, take, get_or, slice_get, refl, sym, ◌∙◌, ap, subst, arith}
+use Rattle.std.proofs.Common.{◌≡◌, ◌<◌, ◌≤◌, ◌+◌, ◌⊎◌, inl, inr, ℕ, List, [], ◌∷◌, ◌++◌, Bool, true, false, cond, nat_eq, Option, Some, None, is_some, Bor, map, length, get_or, slice_get, refl, sym, ◌∙◌, ap, subst, arith}
 use Rattle.std.specs.Cmp.Lexicographic.{pointwise}
 use Rattle.std.specs.Map.{lookup}
 use Rattle.std.proofs.lemmas.Bool.{and_parts, and_from, both_ways}
 use Rattle.std.proofs.lemmas.Bool.Decides.{nat_tests}
-use Rattle.std.proofs.lemmas.List.{map-append, take_more}
+use Rattle.std.proofs.lemmas.List.{map-append}
 use Rattle.std.proofs.lemmas.Option.{slice_get_within, slice_get-map, slice_get_read}
 use Rattle.std.specs.Option.{option_map}
 use Rattle.indexmap.specs.IndexMap.{IndexMap, get_by, insert_entry}
 use Rattle.indexmap.proofs.CallerLemmas.{insert_entry-new}
 use Rattle.vtr_base.specs.Lists.{Has, IsFirstPlace}
-use Rattle.arch_types.specs.declared.block.PbType.{PbType}
-use Rattle.arch_types.specs.declared.block.Port.{Port}
-use Rattle.mode_edges.specs.Scopes.{Named, places_in, IsIndex, AddsName, FindsName, IndexAll}
+use Rattle.mode_edges.specs.Scopes.{Named, places_in, IsIndex, AddsName, FindsName}
 
 nat_same : (m n : ℕ) → nat_eq m n ≡ true → m ≡ n
 nat_same m n e = grind (arith, nat_tests)
@@ -179,38 +177,3 @@ pub name_at : {X : Type 0} (name : X → List ℕ) (xs : List X) (i : ℕ) (x : 
     slice_get (map name xs) i ≡ Some text
 name_at name xs i x text inside is reads =
     slice_get-map name xs i ∙ (ap (option_map name) (slice_get_read xs (length xs) i x refl inside is) ∙ ap Some (sym reads))
-
-pub index_all_more : {S : Type 0} (kids : List PbType) (all : List (IndexMap (Bor (List ℕ)) ℕ S)) (kid : PbType) (index : IndexMap (Bor (List ℕ)) ℕ S) →
-    IndexAll kids all → IsIndex (map (λ p. p.name) kid.ports) (places_in index) → IndexAll (kids ++ kid ∷ []) (all ++ index ∷ [])
-index_all_more [] [] kid index a is = (is, tt)
-index_all_more [] (m ∷ ms) kid index a is = absurd a
-index_all_more (k ∷ ks) [] kid index a is = absurd a
-index_all_more (k ∷ ks) (m ∷ ms) kid index a is = (a.0, index_all_more ks ms kid index a.1 is)
-
-pub index_all_length : {S : Type 0} (kids : List PbType) (all : List (IndexMap (Bor (List ℕ)) ℕ S)) → IndexAll kids all → length all ≡ length kids
-index_all_length [] [] a = refl
-index_all_length [] (m ∷ ms) a = absurd a
-index_all_length (k ∷ ks) [] a = absurd a
-index_all_length (k ∷ ks) (m ∷ ms) a = ap suc (index_all_length ks ms a.1)
-
-pub index_all_at : {S : Type 0} (kids : List PbType) (all : List (IndexMap (Bor (List ℕ)) ℕ S)) (n : ℕ) (kid : PbType) (index : IndexMap (Bor (List ℕ)) ℕ S) → IndexAll kids all →
-    slice_get kids n ≡ Some kid → slice_get all n ≡ Some index → IsIndex (map (λ p. p.name) kid.ports) (places_in index)
-index_all_at [] [] n kid index a k i = cc
-index_all_at [] (m ∷ ms) n kid index a k i = absurd a
-index_all_at (x ∷ ks) [] n kid index a k i = absurd a
-index_all_at {S} (x ∷ ks) (m ∷ ms) zero kid index a k i =
-    let same_kid : x ≡ kid = cc in
-    let same_index : m ≡ index = cc in
-    subst (λ (b : PbType). IsIndex (map (λ p. p.name) b.ports) (places_in index)) same_kid
-    (subst (λ (y : IndexMap (Bor (List ℕ)) ℕ S). IsIndex (map (λ p. p.name) x.ports) (places_in y)) same_index a.0)
-index_all_at (x ∷ ks) (m ∷ ms) (suc n) kid index a k i = index_all_at ks ms n kid index a.1 k i
-
-pub index_all_step : {S : Type 0} (kids : List PbType) (i : ℕ) (old new : List (IndexMap (Bor (List ℕ)) ℕ S)) (kid : PbType) (ports : List Port) (index : IndexMap (Bor (List ℕ)) ℕ S) →
-    i < length kids → kid ≡ get_or kids i kid → ports ≡ kid.ports → new ≡ old ++ index ∷ [] → IsIndex (map (λ p. p.name) ports) (places_in index) →
-    IndexAll (take i kids) old → IndexAll (take (i + 1) kids) new
-index_all_step {S} kids i old new kid ports index inside is reads grown indexed so_far =
-    let longer : take (i + 1) kids ≡ take i kids ++ kid ∷ [] = take_more kids i kid inside ∙ ap (λ (k : PbType). take i kids ++ k ∷ []) (sym is) in
-    let one = subst (λ (l : List Port). IsIndex (map (λ p. p.name) l) (places_in index)) reads indexed in
-    let more = index_all_more (take i kids) old kid index so_far one in
-    subst (λ (l : List PbType). IndexAll l new) (sym longer)
-    (subst (λ (l : List (IndexMap (Bor (List ℕ)) ℕ S)). IndexAll (take i kids ++ kid ∷ []) l) (sym grown) more)

@@ -1,32 +1,37 @@
 -- Of edges that are given in order, those that are kept: of each pair of pins the first.
-use Rattle.std.proofs.Common.{◌≡◌, ◌≤◌, ◌⊎◌, inl, inr, ℕ, true, false, ◌&&◌, List, [], ◌∷◌, ◌++◌, map, append_assoc, append-nil, refl, sym, ◌∙◌, ap, subst, arith}
+use Rattle.std.proofs.Common.{◌≡◌, ◌⊎◌, inl, inr, ℕ, zero, suc, Some, slice_get, true, false, ◌&&◌, List, [], ◌∷◌, ◌++◌, map, append_assoc, append-nil, refl, sym, ◌∙◌, ap, subst}
 use Rattle.std.proofs.lemmas.Bool.{and_parts, and_from, or_cases, or_left, or_right, cases_Bool, both_ways, cond-true, cond-false}
 use Rattle.std.proofs.lemmas.List.{map-append}
 use Rattle.vtr_base.specs.Lists.{Has}
 use Rattle.mode_edges.specs.declared.pin.LocalPin.{LocalPin}
 use Rattle.mode_edges.specs.declared.pin.LocalEdge.{LocalEdge}
+use Rattle.mode_edges.specs.Edges.{EdgePlace, IsBefore}
 use Rattle.mode_edges.specs.Pairs.{same_pin, joined, with_edge, with_edges}
+use Rattle.mode_edges.proofs.OneList.{not_both_before}
 use Rattle.mode_edges.proofs.PairKeys.{pin_same, pin_itself}
 
--- an edge with the place of the input pins from which it is given
+-- an edge with the places of the input pins and of the output pins at which it is given
 pub record Given : Type 0 where
   pub edge : LocalEdge
-  pub place : ℕ
+  pub source : ℕ
+  pub end : ℕ
+
+abbrev pub at : Given → EdgePlace
+at g = record { inter = g.edge.inter; source = g.source; end = g.end }
 
 abbrev pub edges_at : List Given → List LocalEdge
 edges_at gs = map (λ (g : Given). g.edge) gs
 
--- g is given before h, or from the same place
-pub record NotAfter (g h : Given) : Type 0 where
-  pub owner : g.edge.inter ≤ h.edge.inter
-  pub place : g.edge.inter ≡ h.edge.inter → g.place ≤ h.place
+-- h isn't given before g
+abbrev pub NotAfter : Given → Given → Type 0
+NotAfter g h = IsBefore (at h) (at g) → ⊥
 
 abbrev pub SamePins : LocalEdge → LocalEdge → Type 0
 SamePins e f = (e.src ≡ f.src) × (e.dst ≡ f.dst)
 
 abbrev pub InOrder : List Given → Type 0
 InOrder [] = Unit {0}
-InOrder (g ∷ gs) = ((h : Given) → Has gs h → NotAfter g h) × InOrder gs
+InOrder (g ∷ gs) = ((h : Given) → Has gs h → IsBefore (at g) (at h)) × InOrder gs
 
 -- no two of them join the same pins
 abbrev pub Apart : List Given → Type 0
@@ -47,7 +52,12 @@ has_split [] ys x h = inr h
 has_split (y ∷ xs) ys x (inl e) = inl (inl e)
 has_split (y ∷ xs) ys x (inr h) = elim (has_split xs ys x h) [ inl a ↦ inl (inr a) | inr b ↦ inr b ]
 
-pub in_order_both : (xs ys : List Given) → InOrder xs → InOrder ys → ((x y : Given) → Has xs x → Has ys y → NotAfter x y) → InOrder (xs ++ ys)
+pub has_at : {X : Type 0} (xs : List X) (n : ℕ) (x : X) → slice_get xs n ≡ Some x → Has xs x
+has_at [] n x at = cc
+has_at (y ∷ xs) zero x at = inl (cc)
+has_at (y ∷ xs) (suc n) x at = inr (has_at xs n x at)
+
+pub in_order_both : (xs ys : List Given) → InOrder xs → InOrder ys → ((x y : Given) → Has xs x → Has ys y → IsBefore (at x) (at y)) → InOrder (xs ++ ys)
 in_order_both [] ys a b across = b
 in_order_both (x ∷ xs) ys a b across = (
   λ h there. elim (has_split xs ys h there) [ inl first ↦ a.0 h first | inr second ↦ across x h (inl refl) second ],
@@ -110,9 +120,11 @@ pub kept_none : IsKept [] []
 kept_none = record { kept = []; is = refl; from = λ g h. h; covers = λ h none. absurd none; sorted = tt; apart = tt }
 
 not_after_itself : (g h : Given) → h ≡ g → NotAfter g h
-not_after_itself g h is = subst (NotAfter g) (sym is) (record { owner = omega arith; place = λ same. omega arith })
+not_after_itself g h is before =
+    let self = subst (λ (x : Given). IsBefore (at x) (at g)) is before in
+    not_both_before (at g) (at g) self self
 
-kept_known : (seen : List Given) (edges : List LocalEdge) (g : Given) → IsKept seen edges → ((h : Given) → Has seen h → NotAfter h g) → joined edges g.edge ≡ true →
+kept_known : (seen : List Given) (edges : List LocalEdge) (g : Given) → IsKept seen edges → ((h : Given) → Has seen h → IsBefore (at h) (at g)) → joined edges g.edge ≡ true →
     IsKept (seen ++ g ∷ []) edges
 kept_known seen edges g k after known =
     let by = joined_by edges g.edge known in
@@ -126,7 +138,7 @@ kept_known seen edges g k after known =
       covers = λ x h. elim (has_split seen (g ∷ []) x h) [
         | inl there ↦ k.covers x there
         | inr last ↦ elim last [
-          | inl is ↦ (first.0, first.1, at_same first.0 x is same, subst (NotAfter first.0) (sym is) (after first.0 (k.from first.0 first.1)))
+          | inl is ↦ (first.0, first.1, at_same first.0 x is same, subst (NotAfter first.0) (sym is) (not_both_before (at first.0) (at g) (after first.0 (k.from first.0 first.1))))
           | inr none ↦ absurd none
         ]
       ];
@@ -137,7 +149,7 @@ kept_known seen edges g k after known =
     at_same : (f x : Given) → x ≡ g → SamePins f.edge g.edge → SamePins f.edge x.edge
     at_same f x is same = subst (λ (y : Given). SamePins f.edge y.edge) (sym is) same
 
-kept_new : (seen : List Given) (edges : List LocalEdge) (g : Given) → IsKept seen edges → ((h : Given) → Has seen h → NotAfter h g) → joined edges g.edge ≡ false →
+kept_new : (seen : List Given) (edges : List LocalEdge) (g : Given) → IsKept seen edges → ((h : Given) → Has seen h → IsBefore (at h) (at g)) → joined edges g.edge ≡ false →
     IsKept (seen ++ g ∷ []) (edges ++ g.edge ∷ [])
 kept_new seen edges g k after unknown = record {
   kept = k.kept ++ g ∷ [];
@@ -154,7 +166,7 @@ kept_new seen edges g k after unknown = record {
     ]
   ];
   sorted = in_order_both k.kept (g ∷ []) k.sorted (λ h none. absurd none, tt) (λ x y in_kept last. elim last [
-    | inl is ↦ subst (NotAfter x) (sym is) (after x (k.from x in_kept))
+    | inl is ↦ subst (λ (y : Given). IsBefore (at x) (at y)) (sym is) (after x (k.from x in_kept))
     | inr none ↦ absurd none
   ]);
   apart = apart_last k.kept g k.apart (λ x h same.
@@ -164,7 +176,7 @@ kept_new seen edges g k after unknown = record {
     at_same : (x : Given) → x ≡ g → SamePins g.edge x.edge
     at_same x is = subst (λ (y : Given). SamePins g.edge y.edge) (sym is) (refl, refl)
 
-kept_one : (seen : List Given) (edges : List LocalEdge) (g : Given) → IsKept seen edges → ((h : Given) → Has seen h → NotAfter h g) →
+kept_one : (seen : List Given) (edges : List LocalEdge) (g : Given) → IsKept seen edges → ((h : Given) → Has seen h → IsBefore (at h) (at g)) →
     IsKept (seen ++ g ∷ []) (with_edge edges g.edge)
 kept_one seen edges g k after =
     elim (cases_Bool (joined edges g.edge)) [
@@ -173,14 +185,14 @@ kept_one seen edges g k after =
     ]
 
 pub kept_all : (seen : List Given) (edges : List LocalEdge) (gs : List Given) → IsKept seen edges → InOrder gs →
-    ((h g : Given) → Has seen h → Has gs g → NotAfter h g) → IsKept (seen ++ gs) (with_edges edges (edges_at gs))
+    ((h g : Given) → Has seen h → Has gs g → IsBefore (at h) (at g)) → IsKept (seen ++ gs) (with_edges edges (edges_at gs))
 kept_all seen edges [] k order after = subst (λ (l : List Given). IsKept l edges) (sym (append-nil seen)) k
 kept_all seen edges (g ∷ gs) k order after =
     subst (λ (l : List Given). IsKept l (with_edges (with_edge edges g.edge) (edges_at gs))) (append_assoc seen (g ∷ []) gs)
     (kept_all (seen ++ g ∷ []) (with_edge edges g.edge) gs (kept_one seen edges g k (λ h there. after h g there (inl refl))) order.1
     (λ h x there in_gs. elim (has_split seen (g ∷ []) h there) [
       | inl before ↦ after h x before (inr in_gs)
-      | inr last ↦ elim last [ inl is ↦ subst (λ (y : Given). NotAfter y x) (sym is) (order.0 x in_gs) | inr none ↦ absurd none ]
+      | inr last ↦ elim last [ inl is ↦ subst (λ (y : Given). IsBefore (at y) (at x)) (sym is) (order.0 x in_gs) | inr none ↦ absurd none ]
     ]))
 
 -- of two that are kept and join the same pins, one is the other

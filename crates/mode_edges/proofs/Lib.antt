@@ -17,3 +17,4 @@ mod Verdicts
 mod Kept
 mod Givens
 mod EdgeSets
+mod OneList

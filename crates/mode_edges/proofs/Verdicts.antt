@@ -1,5 +1,5 @@
 -- What the groups of an interconnect's words say of its faults.
-use Rattle.std.proofs.Common.{◌≡◌, ◌<◌, ◌≤◌, ◌+◌, ◌⊎◌, ◌↔◌, IsTrue, inl, inr, ℕ, zero, suc, Bool, false, List, [], ◌∷◌, Some, Any, length, get_or, slice_get, refl, sym, ◌∙◌, ap, subst, arith}
+use Rattle.std.proofs.Common.{◌≡◌, ◌<◌, ◌≤◌, ◌+◌, ◌⊎◌, ◌↔◌, IsTrue, inl, inr, ℕ, zero, suc, Bool, false, List, [], ◌∷◌, Option, Some, None, MatchOption, Any, length, get_or, slice_get, refl, sym, ◌∙◌, ap, subst, arith}
 use Rattle.std.specs.List.{flat_map}
 use Rattle.std.proofs.lemmas.Bool.{cases_eq}
 use Rattle.std.proofs.lemmas.Option.{slice_get_read, slice_get_within}
@@ -19,7 +19,7 @@ use Rattle.mode_edges.specs.declared.pin.Role.{Role}
 use Rattle.mode_edges.specs.declared.pin.Role.TheVariants.{Source, End}
 use Rattle.mode_edges.specs.Faults.{NamesNoPin, NamesManyPins, NamesPins, IsFaultless, IsFault, IsFirstFault, IsSound}
 use Rattle.mode_edges.specs.Groups.{AreNamed, ReadsGroups}
-use Rattle.mode_edges.specs.PinWords.{Names, NamesAll, ReadsPins, without_braces}
+use Rattle.mode_edges.specs.PinWords.{Names, NamesAll, ReadsPins, ReadsNoPins, ReadsPin, without_braces}
 use Rattle.mode_edges.specs.Readers.{pins_of}
 use Rattle.mode_edges.proofs.GroupsOf.{groups_pins}
 use Rattle.mode_edges.proofs.OneMeaning.{names_one, reads_one}
@@ -148,10 +148,6 @@ pub inter_at : (mode : Mode) (items : List Inter) (i : ℕ) (inter : Inter) → 
 inter_at mode items i inter are inside is =
     subst (λ (l : List Inter). slice_get l i ≡ Some inter) are (slice_get_read items (length items) i inter refl inside is)
 
-pub in_scope : (P : PbType → Mode → Type 0) (block b : PbType) (mode m : Mode) → b ≡ block → m ≡ mode → P b m → P block mode
-in_scope P block b mode m is_block is_mode p = subst (λ (x : PbType). P x mode) is_block (subst (P b) is_mode p)
-
--- the interconnects below n are faultless
 abbrev pub AreFaultless : PbType → Mode → ℕ → Type 0
 AreFaultless block mode i = (n : ℕ) (inter : Inter) → n < i → slice_get (inters_of mode) n ≡ Some inter → IsFaultless block mode inter
 
@@ -205,3 +201,21 @@ sound_tells_none block mode e sound f = fault_free block mode f.inter e (sound f
         let narrow = ok.narrow wide.is_mux in
         elim wide.wide [ inl many ↦ narrow.0 many | inr other ↦ other (ap length outs ∙ narrow.1) ]
     fault_free block mode inter OutOfMemory ok f = f
+
+-- where a word names no pin, the text names none
+pub reads_none : (block : PbType) (mode : Mode) (role : Role) (text : List ℕ) → NamesNoPin block mode role text → ReadsNoPins block mode role text
+reads_none block mode role text none pins reads = none_unnamed block mode role text text pins refl reads none
+
+-- the pins of the groups are those of the text
+pub reads_items : (block : PbType) (mode : Mode) (role : Role) (text : List ℕ) (groups lent : List PinGroup) (pins : List LocalPin) → ReadsGroups block mode role text groups →
+    lent ≡ groups → pins ≡ flat_map pins_of lent → ReadsPins block mode role text pins
+reads_items block mode role text groups lent pins reads same are =
+    subst (ReadsPins block mode role text) (sym (are ∙ ap (flat_map pins_of) same)) (groups_pins block mode role text groups reads)
+
+-- where they are one pin, the text names that
+pub reads_pin : (block : PbType) (mode : Mode) (role : Role) (text : List ℕ) (groups lent : List PinGroup) (found : Option LocalPin) → ReadsGroups block mode role text groups →
+    lent ≡ groups → MatchOption found ((pin : LocalPin) → flat_map pins_of lent ≡ pin ∷ [] → ⊥) (λ pin. flat_map pins_of lent ≡ pin ∷ []) →
+    MatchOption found ((pin : LocalPin) → ReadsPin block mode role text pin → ⊥) (ReadsPin block mode role text)
+reads_pin block mode role text groups lent None reads same none = λ pin one.
+    none pin (reads_one block mode role text (flat_map pins_of lent) (pin ∷ []) (reads_items block mode role text groups lent (flat_map pins_of lent) reads same refl) one)
+reads_pin block mode role text groups lent (Some pin) reads same is = reads_items block mode role text groups lent (pin ∷ []) reads same (sym is)

@@ -1,6 +1,6 @@
 -- The edges of a mode of a pb_type: the pairs of pins that its interconnects give (VTR
 -- architecture reference, "Interconnect": direct, complete and mux).
-use Rattle.std.specs.Prelude.{◌≡◌, ◌≤◌, ◌<◌, ℕ, List, Some, length, slice_get}
+use Rattle.std.specs.Prelude.{◌≡◌, ◌<◌, ◌⊎◌, ℕ, List, Some, length, slice_get}
 use Rattle.vtr_base.specs.Lists.{Has}
 use Rattle.arch_types.specs.declared.block.PbType.{PbType}
 use Rattle.arch_types.specs.declared.block.Mode.{Mode}
@@ -38,20 +38,53 @@ pub record IsEdge (block : PbType) (mode : Mode) (inter : ℕ) (s d : LocalPin) 
   pub gives : Gives block mode inter s d
   pub first : (k : ℕ) → k < inter → Gives block mode k s d → ⊥
 
--- the first place of its input pins from which the edge's interconnect gives it
-pub record ComesFrom (block : PbType) (mode : Mode) (e : LocalEdge) (place : ℕ) : Type 0 where
-  pub gives : GivesFrom block mode e.inter place e.src e.dst
-  pub first : (k : ℕ) → k < place → GivesFrom block mode e.inter k e.src e.dst → ⊥
+-- where an edge is given: by which interconnect, from which of its input pins, and to which of its
+-- output pins
+pub record EdgePlace : Type 0 where
+  pub inter : ℕ
+  pub source : ℕ
+  pub end : ℕ
 
--- the list holds exactly the edges of the mode, each pair once, in the order of their owners, and
--- those of one owner in the order in which its input names their sources
+-- by the interconnect, then by the input pin, then by the output pin
+abbrev pub IsBefore : EdgePlace → EdgePlace → Type 0
+IsBefore p q = (p.inter < q.inter) ⊎ ((p.inter ≡ q.inter) × ((p.source < q.source) ⊎ ((p.source ≡ q.source) × (p.end < q.end))))
+
+-- the place among the output pins to which a kind of interconnect leads a source
+abbrev pub IsPairTo : InterKind → List LocalPin → ℕ → ℕ → LocalPin → Type 0
+IsPairTo Direct outs source end d = end ≡ source
+IsPairTo Complete outs source end d = slice_get outs end ≡ Some d
+IsPairTo Mux outs source end d = slice_get outs end ≡ Some d
+
+-- the pair is given at that place
+pub record GivesAt (block : PbType) (mode : Mode) (at : EdgePlace) (s d : LocalPin) : Type 0 where
+  pub from : GivesFrom block mode at.inter at.source s d
+  pub to : IsPairTo from.here.kind from.outs at.source at.end d
+
+-- the edge's place is the first at which its pair is given
+pub record StandsAt (block : PbType) (mode : Mode) (e : LocalEdge) (at : EdgePlace) : Type 0 where
+  pub owner : at.inter ≡ e.inter
+  pub gives : GivesAt block mode at e.src e.dst
+  pub first : (other : EdgePlace) → IsBefore other at → GivesAt block mode other e.src e.dst → ⊥
+
+-- the place of e is before that of f
+pub record StandsBefore (block : PbType) (mode : Mode) (e f : LocalEdge) : Type 0 where
+  pub at : EdgePlace
+  pub next : EdgePlace
+  pub stands : StandsAt block mode e at
+  pub follows : StandsAt block mode f next
+  pub before : IsBefore at next
+
+-- the list holds exactly the edges of the mode, each pair once, in the order of their places: by
+-- their owners, then as the owner's input names their sources, then as its output names their ends
 pub record AreEdges (block : PbType) (mode : Mode) (edges : List LocalEdge) : Type 0 where
   pub each : (e : LocalEdge) → Has edges e → IsEdge block mode e.inter e.src e.dst
   pub all : (inter : ℕ) (s d : LocalPin) → IsEdge block mode inter s d → Has edges (record { src = s; dst = d; inter = inter })
   pub once : (i j : ℕ) (e f : LocalEdge) → slice_get edges i ≡ Some e → slice_get edges j ≡ Some f → e.src ≡ f.src → e.dst ≡ f.dst → i ≡ j
-  pub ordered : (i j : ℕ) (e f : LocalEdge) → i < j → slice_get edges i ≡ Some e → slice_get edges j ≡ Some f → e.inter ≤ f.inter
-  pub in_turn : (i j : ℕ) (e f : LocalEdge) (p q : ℕ) → i < j → slice_get edges i ≡ Some e → slice_get edges j ≡ Some f → e.inter ≡ f.inter →
-      ComesFrom block mode e p → ComesFrom block mode f q → p ≤ q
+  pub ordered : (i j : ℕ) (e f : LocalEdge) → i < j → slice_get edges i ≡ Some e → slice_get edges j ≡ Some f → StandsBefore block mode e f
+
+-- a mode has one list of edges at most
+abbrev pub HasOneList : Type 0
+HasOneList = (block : PbType) (mode : Mode) (xs ys : List LocalEdge) → AreEdges block mode xs → AreEdges block mode ys → xs ≡ ys
 
 -- the mode has more edges than that
 pub record HasMoreEdges (block : PbType) (mode : Mode) (most : ℕ) : Type 0 where

@@ -146,3 +146,15 @@ pub record ReadsPins (block : PbType) (mode : Mode) (role : Role) (text : List �
   pub words : List (List ℕ)
   pub are_words : AreWords (without_braces text) words
   pub names : NamesAll block mode role words pins
+
+-- a text names one list of pins at most
+abbrev pub HasOneReading : Type 0
+HasOneReading = (block : PbType) (mode : Mode) (role : Role) (text : List ℕ) (ps qs : List LocalPin) → ReadsPins block mode role text ps → ReadsPins block mode role text qs → ps ≡ qs
+
+-- the text names no list of pins: one of its words names none, or pins on the wrong side
+abbrev pub ReadsNoPins : PbType → Mode → Role → List ℕ → Type 0
+ReadsNoPins block mode role text = (pins : List LocalPin) → ReadsPins block mode role text pins → ⊥
+
+-- the text names this pin and no other
+abbrev pub ReadsPin : PbType → Mode → Role → List ℕ → LocalPin → Type 0
+ReadsPin block mode role text pin = ReadsPins block mode role text (pin ∷ [])

@@ -1,11 +1,10 @@
--- The names in sight of the pin words of a mode, each with its first place in its list.
+-- The names in sight of the pin words of a mode of a pb_type, each with its first place in its list.
 use Rattle.std.specs.Prelude.{◌≡◌, ◌⊎◌, ℕ, List, [], ◌∷◌, ◌++◌, Option, Some, map, slice_get, MatchOption}
 use Rattle.std.specs.Borrow.{Bor}
 use Rattle.vtr_base.specs.Lists.{Has, IsFirstPlace}
 use Rattle.arch_types.specs.declared.block.PbType.{PbType}
-use Rattle.arch_types.specs.Tree.{kids_of}
 use Rattle.indexmap.specs.IndexMap.{IndexMap}
-use Rattle.mode_edges.specs.declared.names.Scope.{Scope}
+use Rattle.arch_types.specs.declared.block.Mode.{Mode}
 
 abbrev pub Named : Type 0
 Named = List ℕ × ℕ
@@ -28,14 +27,7 @@ AddsName old new name place =
 abbrev pub FindsName : List Named → List ℕ → Option ℕ → Type 0
 FindsName places name found = MatchOption found ((q : ℕ) → Has places (name, q) → ⊥) (λ place. Has places (name, place))
 
--- of each child the index of its ports
-abbrev pub IndexAll : {S : Type 0} → List PbType → List (IndexMap (Bor (List ℕ)) ℕ S) → Type 0
-IndexAll [] [] = Unit {0}
-IndexAll (kid ∷ kids) (index ∷ all) = IsIndex (map (λ p. p.name) kid.ports) (places_in index) × IndexAll kids all
-IndexAll _ _ = ⊥
-
--- the indexes of a scope are those of its block and its mode
-pub record IsScope (s : Scope) : Type 0 where
-  pub ports : IsIndex (map (λ p. p.name) s.block.now.ports) (places_in s.ports)
-  pub kids : IsIndex (map (λ kid. kid.name) (kids_of s.mode.now)) (places_in s.kids)
-  pub kid_ports : IndexAll (kids_of s.mode.now) s.kid_ports.items
+-- a mode of a pb_type, with the pb_type
+pub record ModeOf : Type 0 where
+  pub block : PbType
+  pub mode : Mode

@@ -3,39 +3,34 @@ ghost use Rattle.arch_types.specs.Tree.{inters_of};
 ghost use Rattle.mode_edges.specs.Edges.{AreEdges, HasMoreEdges};
 ghost use Rattle.mode_edges.specs.Faults.{IsFaultless, IsSound};
 ghost use Rattle.mode_edges.specs.Pairs.{edges_in};
-ghost use Rattle.mode_edges.specs.Scopes.{IsScope};
 ghost use Rattle.mode_edges.specs.Gathered.{AddsInter};
 
 use crate::found::add_edges;
 use crate::groups::groups;
 use crate::index::place_number;
-use crate::names::{Scope, scope_of};
+use crate::names::ModeNames;
 use crate::pin::{LocalEdge, Pair, Role};
-use arch_types::{Inter, Mode, PbType};
+use arch_types::Inter;
 use indexmap::IndexMap;
 use std::alloc::{AllocError, Global};
 
-/// The edges of one mode of `block`: the pairs of pins that its interconnects give, each owned by
-/// the first interconnect that gives it (VTR architecture reference, "Interconnect"). `None` where
-/// there are more than `most`, which is known before many more are made.
-pub fn edges_of_mode(
-    alloc: Global,
-    block: &PbType,
-    mode: &Mode,
-    most: usize,
-) -> Result<Option<Vec<LocalEdge>>, AllocError>
-    requires { IsSound block.now mode.now }
-    ensures { IfOk result (λ r. MatchOption r (HasMoreEdges block.now mode.now most) (λ edges. AreEdges block.now mode.now edges.items × (length edges.items ≤ most))) }
-{
-    let scope = scope_of(alloc, block, mode)?;
-    let mut found = IndexMap::new(alloc);
-    for (place, inter) in mode.inters.as_slice().iter().enumerate() {
-        let number = place_number(place)?;
-        if !add_inter(alloc, &mut found, &scope, inter, number, most)? {
-            return Ok(None);
+impl<'n, 'a> ModeNames<'n, 'a> {
+    /// The edges of the mode: the pairs of pins that its interconnects give, each owned by the first
+    /// interconnect that gives it (VTR architecture reference, "Interconnect"). `None` where there
+    /// are more than `most`, which is known before many more are made.
+    pub fn edges(&self, alloc: Global, most: usize) -> Result<Option<Vec<LocalEdge>>, AllocError>
+        requires { IsSound self.now.block self.now.mode }
+        ensures { IfOk result (λ r. MatchOption r (HasMoreEdges self.now.block self.now.mode most) (λ edges. AreEdges self.now.block self.now.mode edges.items × (length edges.items ≤ most))) }
+    {
+        let mut found = IndexMap::new(alloc);
+        for (place, inter) in self.mode().inters.as_slice().iter().enumerate() {
+            let number = place_number(place)?;
+            if !add_inter(alloc, &mut found, self, inter, number, most)? {
+                return Ok(None);
+            }
         }
+        Ok(Some(edges_found(alloc, &found)?))
     }
-    Ok(Some(edges_found(alloc, &found)?))
 }
 
 /// Adds the edges that one interconnect gives and that weren't there. False where there would be
@@ -43,19 +38,18 @@ pub fn edges_of_mode(
 fn add_inter(
     alloc: Global,
     found: &mut IndexMap<Pair, u32>,
-    scope: &Scope<'_>,
+    names: &ModeNames<'_, '_>,
     inter: &Inter,
     number: u32,
     most: usize,
 ) -> Result<bool, AllocError>
-    requires scope { IsScope scope.now }
-    requires faultless { IsFaultless scope.now.block.now scope.now.mode.now inter.now }
-    ensures { IfOk result (λ all. AddsInter scope.now.block.now scope.now.mode.now inter.now number most (edges_in found.old) (edges_in found.new) all) }
+    requires { IsFaultless names.now.block names.now.mode inter.now }
+    ensures { IfOk result (λ all. AddsInter names.now.block names.now.mode inter.now number most (edges_in found.old) (edges_in found.new) all) }
 {
-    let Some(ins) = groups(alloc, scope, Role::Source, inter.input.as_bytes())? else {
+    let Some(ins) = groups(alloc, names, Role::Source, inter.input.as_bytes())? else {
         unreachable!()
     };
-    let Some(outs) = groups(alloc, scope, Role::End, inter.output.as_bytes())? else {
+    let Some(outs) = groups(alloc, names, Role::End, inter.output.as_bytes())? else {
         unreachable!()
     };
     Ok(add_edges(

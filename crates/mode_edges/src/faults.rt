@@ -2,13 +2,12 @@ ghost use Rattle.std.specs.Prelude.{◌≡◌, ◌≢◌, ◌<◌, ◌⊎◌, �
 ghost use Rattle.std.specs.List.{flat_map};
 ghost use Rattle.mode_edges.specs.Faults.{IsFaultless, TellsFault, IsSound, TellsFirst};
 ghost use Rattle.mode_edges.specs.Readers.{pins_of};
-ghost use Rattle.mode_edges.specs.Scopes.{IsScope};
 ghost use Rattle.mode_edges.specs.declared.faults.EdgeError.TheVariants.{OutOfMemory};
 
 use crate::groups::{groups, has_wide, pin_count};
-use crate::names::{PinGroup, Scope, scope_of};
+use crate::names::{ModeNames, PinGroup};
 use crate::pin::Role;
-use arch_types::{Inter, InterKind, Mode, PbType};
+use arch_types::{Inter, InterKind};
 use std::alloc::{AllocError, Global};
 use thiserror::Error;
 use vtr_base::Text;
@@ -38,29 +37,29 @@ impl From<AllocError> for EdgeError {
     }
 }
 
-/// Whether every interconnect of the mode names pins rightly. It counts pins and lists none, so that
-/// it is quick at words that name very many.
-pub fn check_mode(alloc: Global, block: &PbType, mode: &Mode) -> Result<(), EdgeError>
-    ensures { MatchResult result (λ _. IsSound block.now mode.now) (λ e. TellsFirst block.now mode.now e) }
-{
-    let scope = scope_of(alloc, block, mode)?;
-    for inter in mode.inters.as_slice() {
-        check_inter(alloc, &scope, inter)?;
+impl<'n, 'a> ModeNames<'n, 'a> {
+    /// Whether every interconnect of the mode names pins rightly. It counts pins and lists none, so
+    /// that it is quick at words that name very many.
+    pub fn check(&self, alloc: Global) -> Result<(), EdgeError>
+        ensures { MatchResult result (λ _. IsSound self.now.block self.now.mode) (λ e. TellsFirst self.now.block self.now.mode e) }
+    {
+        for inter in self.mode().inters.as_slice() {
+            check_inter(alloc, self, inter)?;
+        }
+        Ok(())
     }
-    Ok(())
 }
 
 /// Whether an interconnect names pins rightly.
-fn check_inter(alloc: Global, scope: &Scope<'_>, inter: &Inter) -> Result<(), EdgeError>
-    requires { IsScope scope.now }
-    ensures { MatchResult result (λ _. IsFaultless scope.now.block.now scope.now.mode.now inter.now) (λ e. TellsFault scope.now.block.now scope.now.mode.now inter.now e) }
+fn check_inter(alloc: Global, names: &ModeNames<'_, '_>, inter: &Inter) -> Result<(), EdgeError>
+    ensures { MatchResult result (λ _. IsFaultless names.now.block names.now.mode inter.now) (λ e. TellsFault names.now.block names.now.mode inter.now e) }
 {
-    let Some(ins) = groups(alloc, scope, Role::Source, inter.input.as_bytes())? else {
+    let Some(ins) = groups(alloc, names, Role::Source, inter.input.as_bytes())? else {
         return Err(EdgeError::NoSuchPin {
             inter: inter.name.copy(alloc)?,
         });
     };
-    let Some(outs) = groups(alloc, scope, Role::End, inter.output.as_bytes())? else {
+    let Some(outs) = groups(alloc, names, Role::End, inter.output.as_bytes())? else {
         return Err(EdgeError::NoSuchPin {
             inter: inter.name.copy(alloc)?,
         });

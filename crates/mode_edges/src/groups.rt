@@ -3,9 +3,8 @@ ghost use Rattle.std.specs.List.{flat_map};
 ghost use Rattle.mode_edges.specs.Faults.{NamesNoPin};
 ghost use Rattle.mode_edges.specs.Readers.{pins_of};
 ghost use Rattle.mode_edges.specs.Groups.{AreNamed, ReadsGroups, SomeUnnamed};
-ghost use Rattle.mode_edges.specs.Scopes.{IsScope};
 
-use crate::names::{Members, PinGroup, Scope, named};
+use crate::names::{Members, ModeNames, PinGroup, named};
 use crate::pin::Role;
 use crate::split::{bare, words};
 use std::alloc::{AllocError, Global};
@@ -13,16 +12,15 @@ use std::alloc::{AllocError, Global};
 /// What each word of a list of pin words names, where each names pins on the right side.
 pub(crate) fn groups(
     alloc: Global,
-    scope: &Scope<'_>,
+    names: &ModeNames<'_, '_>,
     role: Role,
     text: &[u8],
 ) -> Result<Option<Vec<PinGroup>>, AllocError>
-    requires { IsScope scope.now }
-    ensures { IfOk result (λ r. MatchOption r (NamesNoPin scope.now.block.now scope.now.mode.now role text.now) (λ v. ReadsGroups scope.now.block.now scope.now.mode.now role text.now v.items)) }
+    ensures { IfOk result (λ r. MatchOption r (NamesNoPin names.now.block names.now.mode role text.now) (λ v. ReadsGroups names.now.block names.now.mode role text.now v.items)) }
 {
     let plain = bare(alloc, text)?;
     let words = words(alloc, plain.as_slice())?;
-    let Some(found) = named_all(alloc, scope, role, words.as_slice())? else {
+    let Some(found) = named_all(alloc, names, role, words.as_slice())? else {
         return Ok(None);
     };
     Ok(Some(found))
@@ -31,16 +29,15 @@ pub(crate) fn groups(
 /// What each of some words names, where each names pins on the right side.
 fn named_all(
     alloc: Global,
-    scope: &Scope<'_>,
+    names: &ModeNames<'_, '_>,
     role: Role,
     words: &[&[u8]],
 ) -> Result<Option<Vec<PinGroup>>, AllocError>
-    requires { IsScope scope.now }
-    ensures { IfOk result (λ r. MatchOption r (SomeUnnamed scope.now.block.now scope.now.mode.now role (map (λ w. w.now) words.now)) (λ v. AreNamed scope.now.block.now scope.now.mode.now role (map (λ w. w.now) words.now) v.items)) }
+    ensures { IfOk result (λ r. MatchOption r (SomeUnnamed names.now.block names.now.mode role (map (λ w. w.now) words.now)) (λ v. AreNamed names.now.block names.now.mode role (map (λ w. w.now) words.now) v.items)) }
 {
     let mut found = Vec::new(alloc);
     for text in words {
-        let Some(group) = named(scope, role, text) else {
+        let Some(group) = named(names, role, text) else {
             return Ok(None);
         };
         found.push(group)?;

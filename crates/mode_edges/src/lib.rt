@@ -1,5 +1,5 @@
-//! The edges of one mode of a pb_type: its interconnects' pin words read, and the pairs of pins
-//! that they give, each owned by the first interconnect that gives it.
+//! Pin words and the edges of one mode of a pb_type: which pins a text names, and the pairs of pins
+//! that the mode's interconnects give, each owned by the first interconnect that gives it.
 #![tactic(auto)]
 
 mod edges;
@@ -7,12 +7,15 @@ mod faults;
 mod found;
 mod groups;
 mod index;
+mod laws;
 mod names;
 mod pin;
+mod pins;
 mod split;
 mod walk;
 mod word;
 
-pub use edges::edges_of_mode;
-pub use faults::{EdgeError, check_mode};
+pub use faults::EdgeError;
+pub use laws::{one_list, one_reading};
+pub use names::{ModeNames, PortNames};
 pub use pin::{ChildAt, LocalEdge, LocalPin, Role};

@@ -3,7 +3,7 @@ ghost use Rattle.vtr_base.specs.Lists.{IsFirstPlace};
 ghost use Rattle.arch_types.specs.Tree.{kids_of};
 ghost use Rattle.mode_edges.specs.PinWords.{Index, AreMembers, IsOwnHead, IsOwnSide, IsChildSide, NamesOwn, NamesChild, Names};
 ghost use Rattle.mode_edges.specs.Readers.{Stands, word_with, member_list, pins_of, NamesBits};
-ghost use Rattle.mode_edges.specs.Scopes.{places_in, IsIndex, IndexAll, IsScope};
+ghost use Rattle.mode_edges.specs.Scopes.{places_in, IsIndex};
 ghost use Rattle.mode_edges.specs.declared.pin.LocalPin.{LocalPin};
 
 use crate::index::{NameIndex, find_name, index_kids, index_ports};
@@ -11,30 +11,31 @@ use crate::pin::Role;
 use crate::word::{Ends, PinWord, part, word};
 use arch_types::{Mode, PbType, Port, Side};
 use std::alloc::{AllocError, Global};
+use std::marker::Model;
 
 /// The members of a range: from `low` on, below `end`.
-#[derive(Clone, Copy, Debug, PartialEq, Eq)]
+#[derive(Clone, Copy)]
 pub struct Members {
     pub low: u32,
     pub end: u32,
 }
 
 /// The bits of a port that a word names.
-#[derive(Clone, Copy, Debug, PartialEq, Eq)]
+#[derive(Clone, Copy)]
 pub struct PortBits {
     pub port: u32,
     pub bits: Members,
 }
 
 /// Those bits, with the side of their port.
-#[derive(Clone, Copy, Debug, PartialEq, Eq)]
+#[derive(Clone, Copy)]
 pub struct SidedBits {
     pub of: PortBits,
     pub side: Side,
 }
 
 /// The instances of a child that a word names.
-#[derive(Clone, Copy, Debug, PartialEq, Eq)]
+#[derive(Clone, Copy)]
 pub struct Instances {
     pub child: u32,
     pub members: Members,
@@ -42,78 +43,170 @@ pub struct Instances {
 
 /// What a word names: bits of a port, of the block itself where `of` is `None`, or of each of some
 /// instances of a child.
-#[derive(Clone, Copy, Debug, PartialEq, Eq)]
+#[derive(Clone, Copy)]
 pub struct PinGroup {
     pub of: Option<Instances>,
     pub bits: PortBits,
 }
 
-/// The names that the pin words of a mode can name, found once for all of its words.
+/// The ports of a pb_type by name. They are found once for a pb_type and serve all of its modes.
+/// Contracts see the pb_type.
 #[derive(Drop)]
-pub struct Scope<'a> {
-    pub(crate) block: &'a PbType,
-    pub(crate) mode: &'a Mode,
-    pub(crate) ports: NameIndex<'a>,
-    pub(crate) kids: NameIndex<'a>,
-    /// Of each child its ports.
-    pub(crate) kid_ports: Vec<NameIndex<'a>>,
-}
-
-/// The names in sight of the pin words of a mode.
-pub(crate) fn scope_of<'a>(
-    alloc: Global,
+pub struct PortNames<'a> {
     block: &'a PbType,
-    mode: &'a Mode,
-) -> Result<Scope<'a>, AllocError>
-    ensures is { IfOk result IsScope }
-    ensures block { IfOk result (λ s. s.block.now ≡ block.now) }
-    ensures mode { IfOk result (λ s. s.mode.now ≡ mode.now) }
-{
-    let ports = index_ports(alloc, block.ports.as_slice())?;
-    let kids = index_kids(alloc, mode.kids.as_slice())?;
-    let kid_ports = index_all(alloc, mode.kids.as_slice())?;
-    Ok(Scope {
-        block,
-        mode,
-        ports,
-        kids,
-        kid_ports,
-    })
+    places: NameIndex<'a>,
 }
 
-/// Of each child the first places of its ports' names.
-fn index_all<'a>(alloc: Global, kids: &'a [PbType]) -> Result<Vec<NameIndex<'a>>, AllocError>
-    ensures { IfOk result (λ all. IndexAll kids.now all.items) }
+impl<'a> Model for PortNames<'a> {
+    ghost use Rattle.std.specs.Prelude.{map};
+    ghost use Rattle.std.specs.Coded.{codes};
+    ghost use Rattle.arch_types.specs.declared.block.PbType.{PbType};
+    ghost use Rattle.arch_types.specs.contracts.block.PbType as tree;
+    ghost use Rattle.mode_edges.specs.Scopes.{places_in, IsIndex};
+
+    ghost Value = { PbType };
+
+    ghost coded = { Prim.hlevel (codes, tree.the_row.coded) };
+
+    ghost view = { λ n. n.block.now };
+
+    ghost invariant = { λ n. IsIndex (map (λ p. p.name) n.block.now.ports) (places_in n.places) };
+}
+
+impl<'a> PortNames<'a> {
+    /// The ports of this pb_type by name.
+    pub fn new(alloc: Global, block: &'a PbType) -> Result<PortNames<'a>, AllocError>
+        ensures { IfOk result (λ names. names ≡ block.now) }
+    {
+        let places = index_ports(alloc, block.ports.as_slice())?;
+        Ok(PortNames { block, places })
+    }
+
+    /// The pb_type.
+    pub fn block(&self) -> &'a PbType
+        ensures { result.now ≡ self.now }
+    {
+        self.block
+    }
+
+    /// The bits that a word names of the port of that name.
+    fn bits(&self, word: &PinWord<'_>) -> Option<SidedBits>
+        ensures { NamesBits self.now.ports word.now result }
+    {
+        port_bits(&self.places, self.block.ports.as_slice(), word)
+    }
+}
+
+/// The names that the pin words of a mode can name. They are found once for a mode and serve all of
+/// its words: those of its interconnects, and any text that names pins as these do. Contracts see
+/// the mode and its pb_type.
+#[derive(Drop)]
+pub struct ModeNames<'n, 'a> {
+    own: &'n PortNames<'a>,
+    mode: &'a Mode,
+    kids: NameIndex<'a>,
+    /// Of each child its ports.
+    kid_ports: Vec<PortNames<'a>>,
+}
+
+impl<'n, 'a> Model for ModeNames<'n, 'a> {
+    ghost use Rattle.std.specs.Prelude.{◌≡◌, map};
+    ghost use Rattle.std.specs.Coded.{codes};
+    ghost use Rattle.arch_types.specs.Tree.{kids_of};
+    ghost use Rattle.arch_types.specs.contracts.block.PbType as tree;
+    ghost use Rattle.arch_types.specs.contracts.block.Mode as row;
+    ghost use Rattle.mode_edges.specs.Scopes.{places_in, IsIndex, ModeOf};
+
+    ghost Value = { ModeOf };
+
+    ghost coded = { Prim.hlevel (codes, tree.the_row.coded, row.the_row.coded) };
+
+    ghost view = { λ n. record { block = n.own.now; mode = n.mode.now } };
+
+    ghost invariant = { λ n. IsIndex (map (λ kid. kid.name) (kids_of n.mode.now)) (places_in n.kids) × (n.kid_ports.items ≡ kids_of n.mode.now) };
+}
+
+impl<'n, 'a> ModeNames<'n, 'a> {
+    /// The names in sight in a mode of the pb_type whose ports these are.
+    pub fn new(
+        alloc: Global,
+        own: &'n PortNames<'a>,
+        mode: &'a Mode,
+    ) -> Result<ModeNames<'n, 'a>, AllocError>
+        ensures block { IfOk result (λ names. names.block ≡ own.now) }
+        ensures mode { IfOk result (λ names. names.mode ≡ mode.now) }
+    {
+        let kids = index_kids(alloc, mode.kids.as_slice())?;
+        let kid_ports = ports_of_all(alloc, mode.kids.as_slice())?;
+        Ok(ModeNames {
+            own,
+            mode,
+            kids,
+            kid_ports,
+        })
+    }
+
+    /// The pb_type.
+    pub fn block(&self) -> &'a PbType
+        ensures { result.now ≡ self.now.block }
+    {
+        self.own.block()
+    }
+
+    /// The mode.
+    pub fn mode(&self) -> &'a Mode
+        ensures { result.now ≡ self.now.mode }
+    {
+        self.mode
+    }
+
+    /// The bits that a word names of the port of the pb_type itself of that name.
+    fn own_bits(&self, word: &PinWord<'_>) -> Option<SidedBits>
+        ensures { NamesBits self.now.block.ports word.now result }
+    {
+        self.own.bits(word)
+    }
+
+    /// The first child of that name with its ports, and its place.
+    fn find_kid(&self, name: &[u8]) -> Option<(u32, &PortNames<'a>)>
+        ensures { MatchOption result ((place : ℕ) → IsFirstPlace (map (λ kid. kid.name) (kids_of self.now.mode)) name.now place → ⊥) (λ found. IsFirstPlace (map (λ kid. kid.name) (kids_of self.now.mode)) name.now found.0 × (slice_get (kids_of self.now.mode) found.0 ≡ Some found.1.now)) }
+    {
+        let place = find_name(&self.kids, name)?;
+        Some((place, &self.kid_ports[place as usize]))
+    }
+}
+
+/// Of each child its ports by name.
+fn ports_of_all<'a>(alloc: Global, kids: &'a [PbType]) -> Result<Vec<PortNames<'a>>, AllocError>
+    ensures { IfOk result (λ all. all.items ≡ kids.now) }
 {
     let mut all = Vec::new(alloc);
     for kid in kids {
-        all.push(index_ports(alloc, kid.ports.as_slice())?)?;
+        all.push(PortNames::new(alloc, kid)?)?;
     }
     Ok(all)
 }
 
 /// What a pin word names, where it names pins on the right side for the role.
-pub(crate) fn named(scope: &Scope<'_>, role: Role, text: &[u8]) -> Option<PinGroup>
-    requires { IsScope scope.now }
-    ensures { MatchOption result ((pins : List LocalPin) → Names scope.now.block.now scope.now.mode.now role text.now pins → ⊥) (λ named. Names scope.now.block.now scope.now.mode.now role text.now (pins_of named)) }
+pub(crate) fn named(names: &ModeNames<'_, '_>, role: Role, text: &[u8]) -> Option<PinGroup>
+    ensures { MatchOption result ((pins : List LocalPin) → Names names.now.block names.now.mode role text.now pins → ⊥) (λ named. Names names.now.block names.now.mode role text.now (pins_of named)) }
 {
     let Some(word) = word(text) else {
         return None;
     };
-    if is_own_head(scope.block.name.as_bytes(), word.head) {
-        named_own(scope, role, &word)
+    if is_own_head(names.block().name.as_bytes(), word.head) {
+        named_own(names, role, &word)
     } else {
-        named_child(scope, role, &word)
+        named_child(names, role, &word)
     }
 }
 
 /// What a word names of the block itself, whose name it bears.
-fn named_own(scope: &Scope<'_>, role: Role, word: &PinWord<'_>) -> Option<PinGroup>
-    requires scope { IsScope scope.now }
-    requires own { IsOwnHead scope.now.block.now.name word.now.head.now }
-    ensures { MatchOption result ((index : Index) (pins : List LocalPin) → Stands word.now.bits index → NamesOwn scope.now.block.now role (word_with word.now index) pins → ⊥) (λ named. (index : Index) → Stands word.now.bits index → NamesOwn scope.now.block.now role (word_with word.now index) (pins_of named)) }
+fn named_own(names: &ModeNames<'_, '_>, role: Role, word: &PinWord<'_>) -> Option<PinGroup>
+    requires { IsOwnHead names.now.block.name word.now.head.now }
+    ensures { MatchOption result ((index : Index) (pins : List LocalPin) → Stands word.now.bits index → NamesOwn names.now.block role (word_with word.now index) pins → ⊥) (λ named. (index : Index) → Stands word.now.bits index → NamesOwn names.now.block role (word_with word.now index) (pins_of named)) }
 {
-    let Some(found) = port_bits(&scope.ports, scope.block.ports.as_slice(), word) else {
+    let Some(found) = names.own_bits(word) else {
         return None;
     };
     if !is_own_side(role, found.side) {
@@ -126,21 +219,20 @@ fn named_own(scope: &Scope<'_>, role: Role, word: &PinWord<'_>) -> Option<PinGro
 }
 
 /// What a word names of a child, where it doesn't bear the name of the block itself.
-fn named_child(scope: &Scope<'_>, role: Role, word: &PinWord<'_>) -> Option<PinGroup>
-    requires scope { IsScope scope.now }
-    requires other { IsOwnHead scope.now.block.now.name word.now.head.now → ⊥ }
-    ensures { MatchOption result ((index : Index) (pins : List LocalPin) → Stands word.now.bits index → NamesChild scope.now.block.now scope.now.mode.now role (word_with word.now index) pins → ⊥) (λ named. (index : Index) → Stands word.now.bits index → NamesChild scope.now.block.now scope.now.mode.now role (word_with word.now index) (pins_of named)) }
+fn named_child(names: &ModeNames<'_, '_>, role: Role, word: &PinWord<'_>) -> Option<PinGroup>
+    requires { IsOwnHead names.now.block.name word.now.head.now → ⊥ }
+    ensures { MatchOption result ((index : Index) (pins : List LocalPin) → Stands word.now.bits index → NamesChild names.now.block names.now.mode role (word_with word.now index) pins → ⊥) (λ named. (index : Index) → Stands word.now.bits index → NamesChild names.now.block names.now.mode role (word_with word.now index) (pins_of named)) }
 {
     let Some((name, ends)) = part(word.head) else {
         return None;
     };
-    let Some((child, kid)) = find_kid(scope, name) else {
+    let Some((child, kid)) = names.find_kid(name) else {
         return None;
     };
-    let Some(members) = members_of(ends, kid.count) else {
+    let Some(members) = members_of(ends, kid.block().count) else {
         return None;
     };
-    let Some(found) = kid_bits(scope, child, kid, word) else {
+    let Some(found) = kid.bits(word) else {
         return None;
     };
     if !is_child_side(role, found.side) {
@@ -150,25 +242,6 @@ fn named_child(scope: &Scope<'_>, role: Role, word: &PinWord<'_>) -> Option<PinG
         of: Some(Instances { child, members }),
         bits: found.of,
     })
-}
-
-/// The first child of that name, and its place.
-fn find_kid<'a>(scope: &Scope<'a>, name: &[u8]) -> Option<(u32, &'a PbType)>
-    requires { IsScope scope.now }
-    ensures { MatchOption result ((place : ℕ) → IsFirstPlace (map (λ kid. kid.name) (kids_of scope.now.mode.now)) name.now place → ⊥) (λ found. IsFirstPlace (map (λ kid. kid.name) (kids_of scope.now.mode.now)) name.now found.0 × (slice_get (kids_of scope.now.mode.now) found.0 ≡ Some found.1.now)) }
-{
-    let place = find_name(&scope.kids, name)?;
-    let kids = scope.mode.kids.as_slice();
-    Some((place, &kids[place as usize]))
-}
-
-/// The bits that a word names of a child's port.
-fn kid_bits(scope: &Scope<'_>, child: u32, kid: &PbType, word: &PinWord<'_>) -> Option<SidedBits>
-    requires scope { IsScope scope.now }
-    requires kid { slice_get (kids_of scope.now.mode.now) child ≡ Some kid.now }
-    ensures { NamesBits kid.now.ports word.now result }
-{
-    port_bits(&scope.kid_ports[child as usize], kid.ports.as_slice(), word)
 }
 
 /// The bits that a word names of the port of that name.

@@ -6,7 +6,7 @@ ghost use Rattle.mode_edges.specs.Readers.{IsCut, capped, ReadsNumber, ReadsRang
 
 /// The ends of a range, the smaller first. An index alone is a range of one. An end of 2^32 - 1 or
 /// more stands as 2^32 - 1, which no port and no count of instances reaches.
-#[derive(Clone, Copy, Debug, PartialEq, Eq)]
+#[derive(Clone, Copy)]
 pub struct Ends {
     pub low: u32,
     pub high: u32,

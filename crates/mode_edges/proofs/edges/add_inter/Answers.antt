@@ -7,19 +7,19 @@ use Rattle.mode_edges.proofs.edges.add_inter.Goals as goal
 
 pub unreachable-requires : goal.unreachable-requires
 unreachable-requires c =
-    none_unnamed c.args.scope.now.block.now c.args.scope.now.mode.now Source c.as_bytes.result.now c.args.inter.now.input c.requires.faultless.ins c.as_bytes.ensures
-    c.requires.faultless.names.reads_ins (rw c.in_default.is at c.in_ok-ins.ensures)
+    none_unnamed c.args.names.now.block c.args.names.now.mode Source c.as_bytes.result.now c.args.inter.now.input c.requires.ins c.as_bytes.ensures
+    c.requires.names.reads_ins (rw c.in_default.is at c.in_ok-ins.ensures)
 
 pub unreachable-requires-in_default-2 : goal.unreachable-requires-in_default-2
 unreachable-requires-in_default-2 c =
-    none_unnamed c.args.scope.now.block.now c.args.scope.now.mode.now End c.as_bytes-2.result.now c.args.inter.now.output c.requires.faultless.outs c.as_bytes-2.ensures
-    c.requires.faultless.names.reads_outs (rw c.in_default-2.is at c.in_ok-outs.ensures)
+    none_unnamed c.args.names.now.block c.args.names.now.mode End c.as_bytes-2.result.now c.args.inter.now.output c.requires.outs c.as_bytes-2.ensures
+    c.requires.names.reads_outs (rw c.in_default-2.is at c.in_ok-outs.ensures)
 
 pub returns : goal.returns
 returns c = record {
   ins = flat_map pins_of c.in-Some.ins.items;
   outs = flat_map pins_of c.in-Some-2.outs.items;
-  names = pins_named c.args.scope.now.block.now c.args.scope.now.mode.now c.args.inter.now c.as_bytes.result.now c.as_bytes-2.result.now c.in-Some.ins.items c.in-Some-2.outs.items
+  names = pins_named c.args.names.now.block c.args.names.now.mode c.args.inter.now c.as_bytes.result.now c.as_bytes-2.result.now c.in-Some.ins.items c.in-Some-2.outs.items
       (record { is_input = c.as_bytes.ensures; is_output = c.as_bytes-2.ensures; reads_ins = rw c.in-Some.is at c.in_ok-ins.ensures; reads_outs = rw c.in-Some-2.is at c.in_ok-outs.ensures });
   adds = at_both (λ x y. AddsUpTo c.args.most (edges_in c.args.found.now) (edges_in c.add_edges.new.found)
       (given_by c.args.inter.now.kind c.args.number (flat_map pins_of x) (flat_map pins_of y)) c.in_ok-add_edges.field-0)

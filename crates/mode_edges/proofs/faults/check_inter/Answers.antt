@@ -4,7 +4,7 @@ use Rattle.mode_edges.proofs.faults.check_inter.Goals as goal
 
 pub returns-then-has_two_widths : goal.returns-then-has_two_widths
 returns-then-has_two_widths c =
-    two_widths c.args.scope.now.block.now c.args.scope.now.mode.now c.args.inter.now c.as_bytes.result.now c.as_bytes-2.result.now c.in_ok-copy-3.field-0
+    two_widths c.args.names.now.block c.args.names.now.mode c.args.inter.now c.as_bytes.result.now c.as_bytes-2.result.now c.in_ok-copy-3.field-0
     c.in-Some.ins.items c.in-Some-2.outs.items
     (record { is_input = c.as_bytes.ensures; is_output = c.as_bytes-2.ensures; reads_ins = rw c.in-Some.is at c.in_ok-ins.ensures; reads_outs = rw c.in-Some-2.is at c.in_ok-outs.ensures })
     c.in_ok-copy-3.ensures
@@ -13,7 +13,7 @@ returns-then-has_two_widths c =
 
 pub returns-then-is_wide_mux : goal.returns-then-is_wide_mux
 returns-then-is_wide_mux c =
-    wide_mux c.args.scope.now.block.now c.args.scope.now.mode.now c.args.inter.now c.as_bytes.result.now c.as_bytes-2.result.now c.in_ok-copy-4.field-0
+    wide_mux c.args.names.now.block c.args.names.now.mode c.args.inter.now c.as_bytes.result.now c.as_bytes-2.result.now c.in_ok-copy-4.field-0
     c.in-Some.ins.items c.in-Some-2.outs.items
     (record { is_input = c.as_bytes.ensures; is_output = c.as_bytes-2.ensures; reads_ins = rw c.in-Some.is at c.in_ok-ins.ensures; reads_outs = rw c.in-Some-2.is at c.in_ok-outs.ensures })
     c.in_ok-copy-4.ensures
@@ -22,7 +22,7 @@ returns-then-is_wide_mux c =
 
 pub returns : goal.returns
 returns c =
-    faultless c.args.scope.now.block.now c.args.scope.now.mode.now c.args.inter.now c.as_bytes.result.now c.as_bytes-2.result.now
+    faultless c.args.names.now.block c.args.names.now.mode c.args.inter.now c.as_bytes.result.now c.as_bytes-2.result.now
     c.in-Some.ins.items c.in-Some-2.outs.items
     (record { is_input = c.as_bytes.ensures; is_output = c.as_bytes-2.ensures; reads_ins = rw c.in-Some.is at c.in_ok-ins.ensures; reads_outs = rw c.in-Some-2.is at c.in_ok-outs.ensures })
     (λ two. not_so c.has_two_widths.result c.has_two_widths.ensures c.if-has_two_widths.false
