@@ -101,10 +101,3 @@ pub fn one_mode(alloc: Global, mode: Mode) -> Result<Items<Mode>, AllocError> {
     modes.push(mode)?;
     Ok(modes)
 }
-
-/// Two modes.
-pub fn two_modes(alloc: Global, first: Mode, second: Mode) -> Result<Items<Mode>, AllocError> {
-    let mut modes = one_mode(alloc, first)?;
-    modes.push(second)?;
-    Ok(modes)
-}

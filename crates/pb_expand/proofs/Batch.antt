@@ -14,9 +14,9 @@ use Rattle.mode_edges.specs.Edges.{IsEdge, AreEdges}
 use Rattle.pb_expand.specs.declared.number.Edge.{Edge}
 use Rattle.pb_expand.specs.declared.number.PinAt.{PinAt}
 use Rattle.pb_expand.specs.Graph.{pin_at}
-use Rattle.pb_expand.specs.Expansion.{owner_address, IsNotAfter}
-use Rattle.pb_expand.specs.Making.{AreOnce, Stands, edge_at, IsPlaced, AddsPlaced, IsMade, IsBefore, IsPart, AreBefore}
-use Rattle.pb_expand.proofs.Lists.{get_front, get_behind, get_either, element, has_at, at_has, snoc_last}
+use Rattle.pb_expand.specs.Expansion.{owner_address}
+use Rattle.pb_expand.specs.Making.{AreOnce, Stands, edge_at, IsPlaced, AddsPlaced, IsMade, IsBefore, StandInTurn, Precedes, AreBefore}
+use Rattle.pb_expand.proofs.Lists.{get_either, element, has_at, at_has, snoc_last}
 
 abbrev child_of : ℕ → ℕ → ChildAt
 child_of child instance = record { child = child; instance = instance }
@@ -43,7 +43,7 @@ one_owner a mode (Some c) (Some d) e =
     ap Some same
 
 -- a number has one local pin
-one_local : (instances : List Address) (pins : List PinAt) (n : ℕ) (a : Address) (mode : ℕ) (p q : LocalPin) →
+pub one_local : (instances : List Address) (pins : List PinAt) (n : ℕ) (a : Address) (mode : ℕ) (p q : LocalPin) →
     Stands instances pins n a mode p → Stands instances pins n a mode q → p ≡ q
 one_local instances pins n a mode p q s t =
     let read : Some (pin_at s.pb p.port p.bit) ≡ Some (pin_at t.pb q.port q.bit) = sym s.is_pin ∙ t.is_pin in
@@ -113,9 +113,6 @@ module _ (blocks : List PbType) (instances : List Address) (pins : List PinAt) (
 
   mode_is : (k : ℕ) (e : Edge) → IsAdded instances pins n m local k e → e.mode ≡ m
   mode_is k e added = ap (λ (x : Edge). x.mode) added.placed.is
-
-  inter_is : (k : ℕ) (e : Edge) → (added : IsAdded instances pins n m local k e) → e.inter ≡ added.l.inter
-  inter_is k e added = ap (λ (x : Edge). x.inter) added.placed.is
 
   -- an edge before this mode isn't one that was added
   apart : (k : ℕ) (e f : Edge) → IsBefore n m e → IsAdded instances pins n m local k f → e.owner.0 ≡ f.owner.0 → e.mode ≡ f.mode → ⊥
@@ -208,16 +205,43 @@ module _ (blocks : List PbType) (instances : List Address) (pins : List PinAt) (
           absurd (apart x.0 f e (before.each f (has_at old j f y)).1 (is_added instances pins n m local old new adds x.0 e x.2) (sym numbers) (sym modes))
       by (inr x) (inr y) = let same = batch_once_more x.0 y.0 e f x.2 y.2 sources ends in omega (arith, x.1, y.1, same)
 
-  batch_ordered : (i j : ℕ) (e f : Edge) → i < j → slice_get new i ≡ Some e → slice_get new j ≡ Some f → IsNotAfter e f
+  -- two that were added stand in the order of the mode's list
+  in_turn : (i j : ℕ) (e f : Edge) → i < j → IsAdded instances pins n m local i e → IsAdded instances pins n m local j f → StandInTurn blocks instances pins e f
+  in_turn i j e f less p q =
+      let owner = owner_is i e p in
+      let same = mode_is i e p in
+      record {
+        block = block;
+        is_block = subst (λ k. slice_get blocks k ≡ Some block) (sym owner) is_block;
+        mode = mode;
+        is_mode = subst (λ k. slice_get (modes_of block.kind) k ≡ Some mode) (sym same) is_mode;
+        local = local;
+        are = are;
+        i = i;
+        j = j;
+        less = less;
+        first = p.l;
+        second = q.l;
+        at_i = p.at;
+        at_j = q.at;
+        is_first = moved owner same p.l e p.placed;
+        is_second = moved owner same q.l f q.placed;
+      }
+    where
+      moved : e.owner.0 ≡ n → e.mode ≡ m → (l : LocalEdge) (x : Edge) → IsPlaced instances pins n m l x → IsPlaced instances pins e.owner.0 e.mode l x
+      moved owner same l x placed =
+          subst (λ k. IsPlaced instances pins e.owner.0 k l x) (sym same) (subst (λ k. IsPlaced instances pins k m l x) (sym owner) placed)
+
+  batch_ordered : (i j : ℕ) (e f : Edge) → i < j → slice_get new i ≡ Some e → slice_get new j ≡ Some f → Precedes blocks instances pins e f
   batch_ordered i j e f low at_i at_j =
       by (get_either old adds.more i e (subst (λ es. slice_get es i ≡ Some e) adds.is at_i)) (get_either old adds.more j f (subst (λ es. slice_get es j ≡ Some f) adds.is at_j))
     where
-      earlier : (k : ℕ) → IsBefore n m e → IsAdded instances pins n m local k f → IsNotAfter e f
+      earlier : (k : ℕ) → IsBefore n m e → IsAdded instances pins n m local k f → Precedes blocks instances pins e f
       earlier k (inl less) y = let is = owner_is k f y in inl (omega arith)
       earlier k (inr less) y = let is = owner_is k f y in let at = mode_is k f y in inr (less.0 ∙ sym is, inl (omega (arith, less.1)))
 
       by : (slice_get old i ≡ Some e) ⊎ ((k : ℕ) × (i ≡ length old + k) × (slice_get adds.more k ≡ Some e)) →
-          (slice_get old j ≡ Some f) ⊎ ((k : ℕ) × (j ≡ length old + k) × (slice_get adds.more k ≡ Some f)) → IsNotAfter e f
+          (slice_get old j ≡ Some f) ⊎ ((k : ℕ) × (j ≡ length old + k) × (slice_get adds.more k ≡ Some f)) → Precedes blocks instances pins e f
       by (inl x) (inl y) = before.ordered i j e f low x y
       by (inl x) (inr y) = earlier y.0 (before.each e (has_at old i e x)).1 (is_added instances pins n m local old new adds y.0 f y.2)
       by (inr x) (inl y) = let inside = slice_get_within old j f y in let place = x.1 in absurd (omega arith)
@@ -225,47 +249,7 @@ module _ (blocks : List PbType) (instances : List Address) (pins : List PinAt) (
           let p = is_added instances pins n m local old new adds x.0 e x.2 in
           let q = is_added instances pins n m local old new adds y.0 f y.2 in
           let less : x.0 < y.0 = omega (arith, x.1, y.1) in
-          let inters = are.ordered x.0 y.0 p.l q.l less p.at q.at in
-          inr (owner_is x.0 e p ∙ sym (owner_is y.0 f q), inr (mode_is x.0 e p ∙ sym (mode_is y.0 f q), omega (arith, inters, inter_is x.0 e p, inter_is y.0 f q)))
-
-  -- the edges of this mode that were added stand behind those that were there
-  part_here : (block' : PbType) (is : Mode) → slice_get blocks n ≡ Some block' → slice_get (modes_of block'.kind) m ≡ Some is → IsPart instances pins new n m block' is
-  part_here block' is at_n at_m =
-      let here : block ≡ block' = cc (is_block, at_n) in
-      let there : mode ≡ is = one_mode block block' m m mode is here refl is_mode at_m in
-      record {
-        local = local;
-        are = subst (λ x. AreEdges block' x local) there (subst (λ b. AreEdges b mode local) here are);
-        from = length old;
-        placed = λ k l at_l.
-            let e = element adds.more k (omega (arith, slice_get_within local k l at_l, adds.all)) in
-            (e.0, ap (λ es. slice_get es (length old + k)) adds.is ∙ get_behind old adds.more k e.0 e.1, adds.placed k l e.0 at_l e.1);
-      }
-
-  part_there : (o p : ℕ) (block' : PbType) (is : Mode) → IsPart instances pins old o p block' is → IsPart instances pins new o p block' is
-  part_there o p block' is part = record {
-    local = part.local;
-    are = part.are;
-    from = part.from;
-    placed = λ k l at_l.
-        let e = part.placed k l at_l in
-        (e.0, ap (λ es. slice_get es (part.from + k)) adds.is ∙ get_front old adds.more (part.from + k) e.0 e.1, e.2);
-  }
-
-  batch_parts : (o p : ℕ) (block' : PbType) (is : Mode) → (o < n) ⊎ ((o ≡ n) × (p < m + 1)) → slice_get blocks o ≡ Some block' → slice_get (modes_of block'.kind) p ≡ Some is →
-      IsPart instances pins new o p block' is
-  batch_parts o p block' is (inl low) at_o at_p = part_there o p block' is (before.parts o p block' is (inl low) at_o at_p)
-  batch_parts o p block' is (inr low) at_o at_p = by (eq-or-lt_of_le below)
-    where
-      below : p ≤ m
-      below = omega (arith, low.1)
-
-      by : (p ≡ m) ⊎ (p < m) → IsPart instances pins new o p block' is
-      by (inl same) =
-          let at_n : slice_get blocks n ≡ Some block' = ap (λ k. slice_get blocks k) (sym low.0) ∙ at_o in
-          let at_m : slice_get (modes_of block'.kind) m ≡ Some is = ap (λ k. slice_get (modes_of block'.kind) k) (sym same) ∙ at_p in
-          subst (λ k. IsPart instances pins new k p block' is) (sym low.0) (subst (λ k. IsPart instances pins new n k block' is) (sym same) (part_here block' is at_n at_m))
-      by (inr less) = part_there o p block' is (before.parts o p block' is (inr (low.0, less)) at_o at_p)
+          inr (owner_is x.0 e p ∙ sym (owner_is y.0 f q), inr (mode_is x.0 e p ∙ sym (mode_is y.0 f q), in_turn x.0 y.0 e f less p q))
 
   pub batch : AreBefore blocks instances pins n (m + 1) new
-  batch = record { each = batch_each; all = batch_all; once = batch_once; ordered = batch_ordered; parts = batch_parts }
+  batch = record { each = batch_each; all = batch_all; once = batch_once; ordered = batch_ordered }

@@ -10,7 +10,7 @@ use Rattle.pb_expand.specs.declared.number.Step.{Step}
 use Rattle.pb_expand.specs.Graph.{hop_of}
 use Rattle.pb_expand.specs.Rows.{address_by, addresses_after, addresses, IsTree}
 use Rattle.arch_types.specs.Tree.{modes_of}
-use Rattle.pb_expand.specs.Making.{AreBlocks, AreShort, AreChildren}
+use Rattle.pb_expand.specs.Making.{AreBlocks, AreShort}
 use Rattle.pb_expand.proofs.Lists.{get_front, get_after, get_either, element, has_at}
 use Rattle.pb_expand.proofs.RowLemmas.{length-addresses, addresses_keep, row_says}
 use Rattle.pb_expand.proofs.Grows.{addresses-push}
@@ -114,27 +114,17 @@ blocks_push root rows k row blocks more p kid tree at_k are is child e =
         (was.0, was.1, ap (λ l. slice_get l n) e ∙ get_front blocks (kid ∷ []) n was.0 was.2)
     by n a {last = last} (inr h) opened = by_last n a last h.0 h.1 h.2 opened
 
-pub short_push : (blocks more : List PbType) (block : PbType) → AreShort blocks → length (modes_of block.kind) < 2 ^ 32 → more ≡ blocks ++ block ∷ [] → AreShort more
+-- a pb_type with few modes and ports
+abbrev pub IsShort : PbType → Type 0
+IsShort block = (length (modes_of block.kind) < 2 ^ 32) × (length block.ports < 2 ^ 32)
+
+pub short_push : (blocks more : List PbType) (block : PbType) → AreShort blocks → IsShort block → more ≡ blocks ++ block ∷ [] → AreShort more
 short_push blocks more block short fits e = record { each = λ n b at. by n b (get_either blocks (block ∷ []) n b (subst (λ l. slice_get l n ≡ Some b) e at)) }
   where
-    by_last : (b : PbType) (j : ℕ) → slice_get (block ∷ []) j ≡ Some b → length (modes_of b.kind) < 2 ^ 32
-    by_last b zero at = let same : block ≡ b = cc in subst (λ (x : PbType). length (modes_of x.kind) < 2 ^ 32) same fits
+    by_last : (b : PbType) (j : ℕ) → slice_get (block ∷ []) j ≡ Some b → IsShort b
+    by_last b zero at = let same : block ≡ b = cc in subst IsShort same fits
     by_last b (suc j) at = absurd (cc)
 
-    by : (n : ℕ) (b : PbType) → (slice_get blocks n ≡ Some b) ⊎ ((j : ℕ) × (n ≡ length blocks + j) × (slice_get (block ∷ []) j ≡ Some b)) → length (modes_of b.kind) < 2 ^ 32
+    by : (n : ℕ) (b : PbType) → (slice_get blocks n ≡ Some b) ⊎ ((j : ℕ) × (n ≡ length blocks + j) × (slice_get (block ∷ []) j ≡ Some b)) → IsShort b
     by n b (inl old) = short.each n b old
     by n b (inr h) = by_last b h.0 h.2
-
--- each instance's pb_type is the child that its row says
-pub are_children : (root : PbType) (rows : List Step) (blocks : List PbType) → IsTree rows → AreBlocks root (addresses rows) blocks → AreChildren rows blocks
-are_children root rows blocks tree are = record { each = λ k s p at_k at_p. by k s p at_k at_p }
-  where
-    by : (k : ℕ) (s : Step) (p : PbType) → slice_get rows k ≡ Some s → slice_get blocks s.parent.0 ≡ Some p → slice_get blocks (k + 1) ≡ child_at p (hop_of s)
-    by k s p at_k at_p =
-        let says = row_says rows k s tree at_k in
-        let parent = are.each s.parent.0 says.parent says.is_parent in
-        let child = are.each (k + 1) (step_to says.parent s.mode s.child s.instance) says.is_child in
-        let same : parent.0 ≡ p = cc (parent.2, at_p) in
-        let opened : at root (step_to says.parent s.mode s.child s.instance) ≡ child_at p (hop_of s) =
-        at_step root says.parent (hop_of s) ∙ ap (option_and_then (λ b. child_at b (hop_of s))) (parent.1 ∙ ap Some same) in
-        child.2 ∙ sym child.1 ∙ opened

@@ -3,7 +3,6 @@ use Rattle.std.proofs.Common.{◌≡◌, ◌+◌, ◌<◌, ◌≤◌, ◌⊎◌,
 use Rattle.std.proofs.lemmas.List.{append-nil, take_more, length-take}
 use Rattle.std.proofs.lemmas.Option.{slice_get_within, option_and_then_some}
 use Rattle.arch_types.specs.declared.block.PbType.{PbType}
-use Rattle.arch_types.specs.declared.block.Mode.{Mode}
 use Rattle.arch_types.specs.Tree.{modes_of}
 use Rattle.arch_types.specs.Address.{Address, at, step_to}
 use Rattle.mode_edges.specs.declared.pin.LocalEdge.{LocalEdge}
@@ -12,11 +11,11 @@ use Rattle.mode_edges.specs.declared.pin.ChildAt.{ChildAt}
 use Rattle.pb_expand.specs.declared.number.Edge.{Edge}
 use Rattle.pb_expand.specs.declared.number.PinAt.{PinAt}
 use Rattle.pb_expand.specs.declared.number.Step.{Step}
-use Rattle.pb_expand.specs.Graph.{Graph, block_at, step_from}
+use Rattle.pb_expand.specs.Graph.{Graph, block_at, pin_at, step_from}
 use Rattle.pb_expand.specs.Rows.{addresses, IsTree}
-use Rattle.pb_expand.specs.Expansion.{owner_address, StandsAt, IsEdgeOf, StandTogether, HasEdges}
-use Rattle.pb_expand.specs.Making.{AreBlocks, AreShort, Stands, IsPlaced, AddsPlaced, IsMade, IsBefore, AreBefore}
-use Rattle.pb_expand.proofs.Lists.{get_either}
+use Rattle.pb_expand.specs.Expansion.{owner_address, StandsAt, IsEdgeOf, IsLocal, AreInTurn, StandsBefore, HasEdges}
+use Rattle.pb_expand.specs.Making.{AreBlocks, AreShort, Stands, IsPlaced, AddsPlaced, IsMade, IsBefore, StandInTurn, Precedes, AreBefore}
+use Rattle.pb_expand.proofs.Lists.{get_either, element, has_at}
 use Rattle.pb_expand.proofs.RowLemmas.{row_says}
 
 pub adds_starts : (instances : List Address) (pins : List PinAt) (owner mode : ℕ) (local : List LocalEdge) (old : List Edge) →
@@ -59,13 +58,8 @@ none_before blocks instances pins = record {
   all = λ e is before. absurd (none e before);
   once = λ i j e f at_i at_j owners modes sources ends. absurd (cc);
   ordered = λ i j e f low at_i at_j. absurd (cc);
-  parts = λ o m block is low at_o at_m. absurd (no_part o m low);
 }
   where
-    no_part : (o m : ℕ) → (o < 0) ⊎ ((o ≡ 0) × (m < 0)) → ⊥
-    no_part o m (inl low) = omega arith
-    no_part o m (inr low) = let bad = low.1 in omega arith
-
     none : (e : Edge) → IsBefore 0 0 e → ⊥
     none e (inl low) = omega arith
     none e (inr low) = let bad = low.1 in omega arith
@@ -78,25 +72,8 @@ mode_ends blocks instances pins n m block edges at done before = record {
   all = λ e is low. before.all e is (within e is low);
   once = before.once;
   ordered = before.ordered;
-  parts = λ o p b is low at_o at_p. before.parts o p b is (part_within o p b is low at_o at_p) at_o at_p;
 }
   where
-    part_within : (o p : ℕ) (b : PbType) (is : Mode) → (o < n + 1) ⊎ ((o ≡ n + 1) × (p < 0)) → slice_get blocks o ≡ Some b → slice_get (modes_of b.kind) p ≡ Some is →
-        (o < n) ⊎ ((o ≡ n) × (p < m))
-    part_within o p b is (inr low) at_o at_p = let bad = low.1 in absurd (omega arith)
-    part_within o p b is (inl low) at_o at_p = by (eq-or-lt_of_le below)
-      where
-        below : o ≤ n
-        below = omega arith
-
-        by : (o ≡ n) ⊎ (o < n) → (o < n) ⊎ ((o ≡ n) × (p < m))
-        by (inr less) = inl less
-        by (inl same) =
-            let found : Some b ≡ Some block = sym at_o ∙ ap (λ k. slice_get blocks k) same ∙ at in
-            let here : b ≡ block = cc in
-            let lengths = ap (λ (x : PbType). length (modes_of x.kind)) here in
-            inr (same, omega (arith, slice_get_within (modes_of b.kind) p is at_p, lengths))
-
     wider : (e : Edge) → IsBefore n m e → IsBefore (n + 1) 0 e
     wider e (inl low) = inl (omega arith)
     wider e (inr low) = let is = low.0 in inl (omega arith)
@@ -114,10 +91,10 @@ mode_ends blocks instances pins n m block edges at done before = record {
     within e is (inl low) = elim (eq-or-lt_of_le (at_most e low)) [ inl same ↦ inr (same, last e is same) | inr less ↦ inl less ]
     within e is (inr low) = let bad = low.1 in absurd (omega arith)
 
-there : (g : Graph) (n : ℕ) (a : Address) (m : ℕ) (p : LocalPin) → Stands g.instances g.pins n a m p → StandsAt g n a m p
+pub there : (g : Graph) (n : ℕ) (a : Address) (m : ℕ) (p : LocalPin) → Stands g.instances g.pins n a m p → StandsAt g n a m p
 there g n a m p s = record { pb = s.pb; is_pin = s.is_pin; is_instance = s.is_instance }
 
-back : (g : Graph) (n : ℕ) (a : Address) (m : ℕ) (p : LocalPin) → StandsAt g n a m p → Stands g.instances g.pins n a m p
+pub back : (g : Graph) (n : ℕ) (a : Address) (m : ℕ) (p : LocalPin) → StandsAt g n a m p → Stands g.instances g.pins n a m p
 back g n a m p s = record { pb = s.pb; is_pin = s.is_pin; is_instance = s.is_instance }
 
 pub is_edge : (g : Graph) (blocks : List PbType) (e : Edge) → AreBlocks g.root g.instances blocks → IsMade blocks g.instances g.pins e → IsEdgeOf g e
@@ -156,47 +133,68 @@ is_made g blocks e are is =
       is_dst = back g e.dst.0 is.address e.mode is.dst is.is_dst;
     }
 
+is_local : (g : Graph) (owner m : ℕ) (a : Address) (l : LocalEdge) (e : Edge) → slice_get g.instances owner ≡ Some a → IsPlaced g.instances g.pins owner m l e → IsLocal g e a m l
+is_local g owner m a l e at_owner p =
+    let src : e.src.0 ≡ p.src = ap (λ (x : Edge). x.src.0) p.is in
+    let dst : e.dst.0 ≡ p.dst = ap (λ (x : Edge). x.dst.0) p.is in
+    record {
+      inter = ap (λ (x : Edge). x.inter) p.is;
+      is_mode = ap (λ (x : Edge). x.mode) p.is;
+      is_src = subst (λ n. StandsAt g n a m l.src) (sym src) (there g p.src a m l.src (p.at_src a at_owner));
+      is_dst = subst (λ n. StandsAt g n a m l.dst) (sym dst) (there g p.dst a m l.dst (p.at_dst a at_owner));
+    }
+
+in_turn : (g : Graph) (blocks : List PbType) (e f : Edge) → AreBlocks g.root g.instances blocks → StandInTurn blocks g.instances g.pins e f → AreInTurn g e f
+in_turn g blocks e f are t =
+    let address = element g.instances e.owner.0 (omega (arith, slice_get_within blocks e.owner.0 t.block t.is_block, are.all)) in
+    let found = are.each e.owner.0 address.0 address.1 in
+    let same : found.0 ≡ t.block = cc (found.2, t.is_block) in
+    record {
+      address = address.0;
+      is_owner = address.1;
+      block = t.block;
+      is_block = found.1 ∙ ap Some same;
+      mode = t.mode;
+      is_mode = t.is_mode;
+      local = t.local;
+      are = t.are;
+      i = t.i;
+      j = t.j;
+      less = t.less;
+      first = t.first;
+      second = t.second;
+      at_i = t.at_i;
+      at_j = t.at_j;
+      is_first = is_local g e.owner.0 e.mode address.0 t.first e address.1 t.is_first;
+      is_second = is_local g e.owner.0 e.mode address.0 t.second f address.1 t.is_second;
+    }
+
+stands_before : (g : Graph) (blocks : List PbType) (e f : Edge) → AreBlocks g.root g.instances blocks → Precedes blocks g.instances g.pins e f → StandsBefore g e f
+stands_before g blocks e f are (inl less) = inl less
+stands_before g blocks e f are (inr (owner, inl less)) = inr (owner, inl less)
+stands_before g blocks e f are (inr (owner, inr (mode, turn))) = inr (owner, inr (mode, in_turn g blocks e f are turn))
+
 -- all instances were passed: these are the edges of the graph
 pub has_edges : (g : Graph) (blocks : List PbType) → AreBlocks g.root g.instances blocks → AreBefore blocks g.instances g.pins (length blocks) 0 g.edges → HasEdges g
 has_edges g blocks are before = record {
   each = λ e has. is_edge g blocks e are (before.each e has).0;
   all = λ e is. let made = is_made g blocks e are is in before.all e made (inl (slice_get_within blocks e.owner.0 made.block made.is_block));
   once = before.once;
-  ordered = before.ordered;
-  together = stand_together;
+  ordered = λ i j e f less at_i at_j. stands_before g blocks e f are (before.ordered i j e f less at_i at_j);
 }
-  where
-    stand_together : (owner : ℕ) (address : Address) (block : PbType) (m : ℕ) (mode : Mode) → slice_get g.instances owner ≡ Some address → at g.root address ≡ Some block →
-        slice_get (modes_of block.kind) m ≡ Some mode → StandTogether g owner address m block mode
-    stand_together owner address block m mode at_owner is_block is_mode =
-        let found = are.each owner address at_owner in
-        let same : found.0 ≡ block = cc (found.1, is_block) in
-        let at_blocks : slice_get blocks owner ≡ Some block = found.2 ∙ ap Some same in
-        let part = before.parts owner m block mode (inl (slice_get_within blocks owner block at_blocks)) at_blocks is_mode in
-        record {
-          local = part.local;
-          are = part.are;
-          from = part.from;
-          each = λ k l at_l.
-              let e = part.placed k l at_l in
-              let p = e.2 in
-              let src : e.0.src.0 ≡ p.src = ap (λ (x : Edge). x.src.0) p.is in
-              let dst : e.0.dst.0 ≡ p.dst = ap (λ (x : Edge). x.dst.0) p.is in (
-                e.0,
-                e.1,
-                ap (λ (x : Edge). x.owner.0) p.is,
-                record {
-                  inter = ap (λ (x : Edge). x.inter) p.is;
-                  is_mode = ap (λ (x : Edge). x.mode) p.is;
-                  is_src = subst (λ n. StandsAt g n address m l.src) (sym src) (there g p.src address m l.src (p.at_src address at_owner));
-                  is_dst = subst (λ n. StandsAt g n address m l.dst) (sym dst) (there g p.dst address m l.dst (p.at_dst address at_owner));
-                },
-              );
-        }
+
+-- the edges join pins that are there
+pub made_inside : (blocks : List PbType) (instances : List Address) (pins : List PinAt) (n m : ℕ) (edges : List Edge) → AreBefore blocks instances pins n m edges →
+    (k : ℕ) (e : Edge) → slice_get edges k ≡ Some e → (e.src.0 < length pins) × (e.dst.0 < length pins)
+made_inside blocks instances pins n m edges before k e at =
+    let made = (before.each e (has_at edges k e at)).0 in (
+      slice_get_within pins e.src.0 (pin_at made.is_src.pb made.src.port made.src.bit) made.is_src.is_pin,
+      slice_get_within pins e.dst.0 (pin_at made.is_dst.pb made.dst.port made.dst.bit) made.is_dst.is_pin,
+    )
 
 -- the pb_types of a graph's instances have few modes each
 pub short_at : (g : Graph) (blocks : List PbType) → AreBlocks g.root g.instances blocks → AreShort blocks →
-    (n : ℕ) (block : PbType) → block_at g n ≡ Some block → length (modes_of block.kind) < 2 ^ 32
+    (n : ℕ) (block : PbType) → block_at g n ≡ Some block → (length (modes_of block.kind) < 2 ^ 32) × (length block.ports < 2 ^ 32)
 short_at g blocks are short n block e =
     option_and_then_some (λ a. at g.root a) (slice_get g.instances n) block e
     (λ a at_n found.

@@ -1,110 +1,130 @@
--- For each instance the first one of its pb_type.
-use Rattle.std.proofs.Common.{◌≡◌, ◌+◌, ◌≤◌, ◌⊎◌, ℕ, zero, suc, List, [], ◌∷◌, ◌++◌, Some, IsSome, length, slice_get, refl, sym, ap, ◌∙◌, subst, inl, inr, arith}
+-- For each instance the first one of its pb_type: the one at the same address with the first
+-- instance of each child.
+use Rattle.std.proofs.Common.{◌≡◌, ◌+◌, ◌⊎◌, ℕ, zero, suc, List, [], ◌∷◌, ◌++◌, Option, Some, None, IsSome, length, slice_get, refl, sym, ap, ◌∙◌, subst, inl, inr, arith}
+use Rattle.std.specs.Option.{option_and_then}
+use Rattle.std.proofs.lemmas.List.{map-append}
 use Rattle.std.proofs.lemmas.Option.{slice_get_within}
 use Rattle.arch_types.specs.declared.block.PbType.{PbType}
-use Rattle.arch_types.specs.declared.block.Mode.{Mode}
-use Rattle.arch_types.specs.Tree.{kids_of}
-use Rattle.arch_types.specs.Address.{child_at}
+use Rattle.arch_types.specs.Address.{Address, at, child_at, step_to}
+use Rattle.arch_types.specs.Numbering.{IsNumbering}
+use Rattle.mode_edges.specs.declared.pin.ChildAt.{ChildAt}
 use Rattle.pb_expand.specs.declared.number.Step.{Step}
 use Rattle.pb_expand.specs.declared.number.PbIx.{PbIx}
-use Rattle.pb_expand.specs.Graph.{pb_ix, step_from}
-use Rattle.pb_expand.specs.Making.{AreChildren, StandFor, IsLike}
-use Rattle.pb_expand.proofs.Lists.{get_front, get_after, get_either, element}
+use Rattle.pb_expand.specs.Graph.{Graph, pb_ix, block_at, first_hop, first_address}
+use Rattle.pb_expand.specs.Rows.{addresses, IsTree}
+use Rattle.pb_expand.specs.Making.{AreBlocks, AreFirsts, StandFor, IsOwner}
+use Rattle.pb_expand.proofs.Lists.{has_at, at_has, element, get_either}
+use Rattle.pb_expand.proofs.RowLemmas.{root_first, row_says}
 use Rattle.pb_expand.proofs.Blocks.{takes}
+use Rattle.pb_expand.proofs.PinPlaces.{row_below, child_is, owner_stands}
 
--- the instances of a child have one pb_type
-pub one_child : (p : PbType) (mode child n m : ℕ) (a b : PbType) → child_at p (record { mode = mode; child = child; instance = n }) ≡ Some a →
-    child_at p (record { mode = mode; child = child; instance = m }) ≡ Some b → a ≡ b
-one_child p mode child n m a b is_a is_b =
-    let one = takes p (record { mode = mode; child = child; instance = n }) (subst (λ o. IsSome o) (sym is_a) refl) in
-    let two = takes p (record { mode = mode; child = child; instance = m }) (subst (λ o. IsSome o) (sym is_b) refl) in
-    let modes : one.mode ≡ two.mode = cc (one.is_mode, two.is_mode) in
-    let kids_one : slice_get (kids_of two.mode) child ≡ Some one.kid = subst (λ (x : Mode). slice_get (kids_of x) child ≡ Some one.kid) modes one.is_kid in
-    let kids : one.kid ≡ two.kid = cc (kids_one, two.is_kid) in
-    let first : one.kid ≡ a = cc (one.is, is_a) in
-    let second : two.kid ≡ b = cc (two.is, is_b) in
-    sym first ∙ kids ∙ second
+first_snoc : (a : Address) (mode child instance : ℕ) → first_address (step_to a mode child instance) ≡ step_to (first_address a) mode child 0
+first_snoc a mode child instance = map-append first_hop a (record { mode = mode; child = child; instance = instance } ∷ [])
 
--- an instance may stand for the next one: it is that one, or it stands for itself and is of the same pb_type
-abbrev pub MayStand : List PbType → List PbIx → PbIx → Type 0
-MayStand blocks firsts f = (f.0 ≡ length firsts) ⊎ ((slice_get firsts f.0 ≡ Some f) × (slice_get blocks f.0 ≡ slice_get blocks (length firsts)))
+first_twice : (a : Address) → first_address (first_address a) ≡ first_address a
+first_twice [] = refl
+first_twice (h ∷ a) = ap (λ l. first_hop h ∷ l) (first_twice a)
 
-pub firsts_begin : (blocks : List PbType) (firsts : List PbIx) → firsts ≡ pb_ix 0 ∷ [] → StandFor blocks firsts
-firsts_begin blocks firsts e = subst (λ fs. StandFor blocks fs) (sym e) (record {
-  before = λ n f at. low n f at;
-  itself = λ n f at. by_itself n f at;
-  same = λ n f at. by_same n f at;
-})
+-- the first instance is of the same pb_type
+pub at_first : (root : PbType) (a : Address) → IsSome (at root a) → at root (first_address a) ≡ at root a
+at_first root [] some = refl
+at_first root (h ∷ a) some = by (child_at root h) refl some (λ kid s. at_first kid a s)
   where
-    low : (n : ℕ) (f : PbIx) → slice_get (pb_ix 0 ∷ []) n ≡ Some f → f.0 ≤ n
-    low zero f at = let is : pb_ix 0 ≡ f = cc in omega (arith, ap (λ (x : PbIx). x.0) is)
-    low (suc n) f at = absurd (cc)
+    by : (o : Option PbType) → child_at root h ≡ o → IsSome (option_and_then (λ kid. at kid a) o) →
+        ((kid : PbType) → IsSome (at kid a) → at kid (first_address a) ≡ at kid a) → at root (first_address (h ∷ a)) ≡ at root (h ∷ a)
+    by None e there more = cc
+    by (Some kid) e there more =
+        let t = takes root h (subst (λ o. IsSome o) (sym e) refl) in
+        let same : t.kid ≡ kid = cc (t.is, e) in
+        let first : child_at root (first_hop h) ≡ Some t.kid = child_is root (first_hop h) t.mode t.kid t.is_mode t.is_kid (omega (arith, t.counted)) in
+        ap (option_and_then (λ k. at k (first_address a))) (first ∙ ap Some same) ∙ more kid there ∙ sym (ap (option_and_then (λ k. at k a)) e)
 
-    by_itself : (n : ℕ) (f : PbIx) → slice_get (pb_ix 0 ∷ []) n ≡ Some f → slice_get (pb_ix 0 ∷ []) f.0 ≡ Some f
-    by_itself zero f at = let is : pb_ix 0 ≡ f = cc in subst (λ (x : PbIx). slice_get (pb_ix 0 ∷ []) x.0 ≡ Some x) is refl
-    by_itself (suc n) f at = absurd (cc)
+abbrev pub first_child : Step → ChildAt
+first_child s = record { child = s.child; instance = 0 }
 
-    by_same : (n : ℕ) (f : PbIx) → slice_get (pb_ix 0 ∷ []) n ≡ Some f → slice_get blocks f.0 ≡ slice_get blocks n
-    by_same zero f at = let is : pb_ix 0 ≡ f = cc in subst (λ (x : PbIx). slice_get blocks x.0 ≡ slice_get blocks 0) is refl
-    by_same (suc n) f at = absurd (cc)
+-- the first instance of a row's child below its parent's first one is there
+pub like_there : (root : PbType) (rows : List Step) (k f : ℕ) (s : Step) (parent : Address) → IsTree rows → IsNumbering root (addresses rows) → slice_get rows k ≡ Some s →
+    slice_get (addresses rows) s.parent.0 ≡ Some parent → slice_get (addresses rows) f ≡ Some (first_address parent) → (pb : ℕ) × IsOwner rows f s.mode (Some (first_child s)) pb
+like_there root rows k f s parent tree numbering at_k at_parent at_f =
+    let says = row_says rows k s tree at_k in
+    let same : says.parent ≡ parent = cc (says.is_parent, at_parent) in
+    let a = step_to says.parent s.mode s.child s.instance in
+    let there = (numbering.exact a).0 (has_at (addresses rows) (k + 1) a says.is_child) in
+    let first = subst (λ o. IsSome o) (sym (at_first root a there)) there in
+    let j = at_has (addresses rows) (first_address a) ((numbering.exact (first_address a)).1 first) in
+    let at_j : slice_get (addresses rows) j.0 ≡ Some (step_to (first_address parent) s.mode s.child 0) =
+    j.1 ∙ ap Some (first_snoc says.parent s.mode s.child s.instance) ∙ ap (λ x. Some (step_to (first_address x) s.mode s.child 0)) same in
+    let row = row_below root rows f s.mode s.child 0 j.0 (first_address parent) tree numbering at_f at_j in
+    (row.0 + 1, (row.0, row.2, refl))
 
-pub firsts_push : (blocks : List PbType) (firsts more : List PbIx) (f : PbIx) → StandFor blocks firsts → MayStand blocks firsts f → more ≡ firsts ++ f ∷ [] → StandFor blocks more
-firsts_push blocks firsts more f stand may e = subst (λ fs. StandFor blocks fs) (sym e) (record {
-  before = λ n g at. low n g (get_either firsts (f ∷ []) n g at);
-  itself = λ n g at. by_itself n g (get_either firsts (f ∷ []) n g at);
-  same = λ n g at. by_same n g (get_either firsts (f ∷ []) n g at);
-})
+abbrev pub AreFirstSoFar : List Address → List PbIx → Type 0
+AreFirstSoFar instances firsts = (n : ℕ) (a : Address) (f : PbIx) → slice_get instances n ≡ Some a → slice_get firsts n ≡ Some f → slice_get instances f.0 ≡ Some (first_address a)
+
+pub first_begins : (rows : List Step) (firsts : List PbIx) → firsts ≡ pb_ix 0 ∷ [] → AreFirstSoFar (addresses rows) firsts
+first_begins rows firsts e n a f at_n at_f = by n at_n (subst (λ l. slice_get l n ≡ Some f) e at_f)
   where
-    may_low : MayStand blocks firsts f → f.0 ≤ length firsts
-    may_low (inl is) = omega arith
-    may_low (inr is) = omega (arith, slice_get_within firsts f.0 f is.0)
+    by : (k : ℕ) → slice_get (addresses rows) k ≡ Some a → slice_get (pb_ix 0 ∷ []) k ≡ Some f → slice_get (addresses rows) f.0 ≡ Some (first_address a)
+    by zero at_k is =
+        let root : Some [] ≡ Some a = sym (root_first rows) ∙ at_k in
+        let same : [] ≡ a = cc in
+        let first : pb_ix 0 ≡ f = cc in
+        ap (λ (x : PbIx). slice_get (addresses rows) x.0) (sym first) ∙ root_first rows ∙ ap (λ x. Some (first_address x)) same
+    by (suc k) at_k is = absurd (cc)
 
-    may_itself : MayStand blocks firsts f → slice_get (firsts ++ f ∷ []) f.0 ≡ Some f
-    may_itself (inl is) = get_after firsts [] f f.0 is
-    may_itself (inr is) = get_front firsts (f ∷ []) f.0 f is.0
+-- one more row's first instance
+pub first_more : (rows : List Step) (k : ℕ) (s : Step) (parent : Address) (f g : PbIx) (firsts new : List PbIx) → IsTree rows → slice_get rows k ≡ Some s →
+    slice_get (addresses rows) s.parent.0 ≡ Some parent → slice_get (addresses rows) f.0 ≡ Some (first_address parent) → IsOwner rows f.0 s.mode (Some (first_child s)) g.0 →
+    length firsts ≡ k + 1 → AreFirstSoFar (addresses rows) firsts → new ≡ firsts ++ g ∷ [] → AreFirstSoFar (addresses rows) new
+first_more rows k s parent f g firsts new tree at_k at_parent at_f is count far e n a h at_n at_h =
+    by (get_either firsts (g ∷ []) n h (subst (λ l. slice_get l n ≡ Some h) e at_h))
+  where
+    stands : slice_get (addresses rows) g.0 ≡ Some (step_to (first_address parent) s.mode s.child 0)
+    stands = owner_stands rows f.0 s.mode (Some (first_child s)) g.0 tree is (first_address parent) at_f
 
-    may_same : MayStand blocks firsts f → slice_get blocks f.0 ≡ slice_get blocks (length firsts)
-    may_same (inl is) = ap (λ k. slice_get blocks k) is
-    may_same (inr is) = is.1
+    last : (j : ℕ) → n ≡ length firsts + j → slice_get (g ∷ []) j ≡ Some h → slice_get (addresses rows) h.0 ≡ Some (first_address a)
+    last zero place at =
+        let says = row_says rows k s tree at_k in
+        let same : says.parent ≡ parent = cc (says.is_parent, at_parent) in
+        let number : n ≡ k + 1 = omega (arith, count) in
+        let here : Some a ≡ Some (step_to says.parent s.mode s.child s.instance) = sym at_n ∙ ap (λ m. slice_get (addresses rows) m) number ∙ says.is_child in
+        let address : a ≡ step_to says.parent s.mode s.child s.instance = cc in
+        let one : g ≡ h = cc in
+        ap (λ (x : PbIx). slice_get (addresses rows) x.0) (sym one) ∙ stands ∙ ap (λ x. Some (step_to (first_address x) s.mode s.child 0)) (sym same)
+        ∙ ap Some (sym (first_snoc says.parent s.mode s.child s.instance)) ∙ ap (λ x. Some (first_address x)) (sym address)
+    last (suc j) place at = absurd (cc)
 
-    last : (n : ℕ) (g : PbIx) (j : ℕ) → n ≡ length firsts + j → slice_get (f ∷ []) j ≡ Some g → (n ≡ length firsts) × (f ≡ g)
-    last n g zero place at = (omega arith, cc)
-    last n g (suc j) place at = absurd (cc)
+    by : (slice_get firsts n ≡ Some h) ⊎ ((j : ℕ) × (n ≡ length firsts + j) × (slice_get (g ∷ []) j ≡ Some h)) → slice_get (addresses rows) h.0 ≡ Some (first_address a)
+    by (inl old) = far n a h at_n old
+    by (inr new') = last new'.0 new'.1 new'.2
 
-    low : (n : ℕ) (g : PbIx) → (slice_get firsts n ≡ Some g) ⊎ ((j : ℕ) × (n ≡ length firsts + j) × (slice_get (f ∷ []) j ≡ Some g)) → g.0 ≤ n
-    low n g (inl at) = stand.before n g at
-    low n g (inr h) = let is = last n g h.0 h.1 h.2 in omega (arith, may_low may, is.0, ap (λ (x : PbIx). x.0) is.1)
+-- first instances stand for themselves, and are of the same pb_type
+pub stand_for : (root : PbType) (instances : List Address) (blocks : List PbType) (firsts : List PbIx) → AreBlocks root instances blocks → IsNumbering root instances →
+    AreFirsts instances firsts → StandFor blocks firsts
+stand_for root instances blocks firsts are numbering first = record { itself = λ n f at. itself n f at; same = λ n f at. same n f at }
+  where
+    itself : (n : ℕ) (f : PbIx) → slice_get firsts n ≡ Some f → slice_get firsts f.0 ≡ Some f
+    itself n f at_n =
+        let a = element instances n (omega (arith, slice_get_within firsts n f at_n, first.all)) in
+        let at_f = first.each n a.0 f a.1 at_n in
+        let g = element firsts f.0 (omega (arith, slice_get_within instances f.0 (first_address a.0) at_f, first.all)) in
+        let at_g = first.each f.0 (first_address a.0) g.0 at_f g.1 in
+        let numbers : g.0.0 ≡ f.0 = numbering.once g.0.0 f.0 (first_address a.0) (at_g ∙ ap Some (first_twice a.0)) at_f in
+        let one : g.0 ≡ f = ap pb_ix numbers in
+        g.1 ∙ ap Some one
 
-    by_itself : (n : ℕ) (g : PbIx) → (slice_get firsts n ≡ Some g) ⊎ ((j : ℕ) × (n ≡ length firsts + j) × (slice_get (f ∷ []) j ≡ Some g)) →
-        slice_get (firsts ++ f ∷ []) g.0 ≡ Some g
-    by_itself n g (inl at) = get_front firsts (f ∷ []) g.0 g (stand.itself n g at)
-    by_itself n g (inr h) = let is = last n g h.0 h.1 h.2 in subst (λ (x : PbIx). slice_get (firsts ++ f ∷ []) x.0 ≡ Some x) is.1 (may_itself may)
+    same : (n : ℕ) (f : PbIx) → slice_get firsts n ≡ Some f → slice_get blocks f.0 ≡ slice_get blocks n
+    same n f at_n =
+        let a = element instances n (omega (arith, slice_get_within firsts n f at_n, first.all)) in
+        let at_f = first.each n a.0 f a.1 at_n in
+        let there = are.each f.0 (first_address a.0) at_f in
+        let here = are.each n a.0 a.1 in
+        let some : IsSome (at root a.0) = subst (λ o. IsSome o) (sym here.1) refl in
+        let blocks : Some there.0 ≡ Some here.0 = sym there.1 ∙ at_first root a.0 some ∙ here.1 in
+        there.2 ∙ blocks ∙ sym here.2
 
-    by_same : (n : ℕ) (g : PbIx) → (slice_get firsts n ≡ Some g) ⊎ ((j : ℕ) × (n ≡ length firsts + j) × (slice_get (f ∷ []) j ≡ Some g)) →
-        slice_get blocks g.0 ≡ slice_get blocks n
-    by_same n g (inl at) = stand.same n g at
-    by_same n g (inr h) =
-        let is = last n g h.0 h.1 h.2 in
-        ap (λ (x : PbIx). slice_get blocks x.0) (sym is.1) ∙ may_same may ∙ ap (λ k. slice_get blocks k) (sym is.0)
-
--- what was found for the next row may stand for it
-pub like_stands : (rows : List Step) (blocks : List PbType) (firsts : List PbIx) (k : ℕ) (row : Step) (f : PbIx) → AreChildren rows blocks → length blocks ≡ 1 + length rows →
-    StandFor blocks firsts → length firsts ≡ k + 1 → slice_get rows k ≡ Some row → (f.0 ≡ length firsts) ⊎ IsLike rows firsts row f → MayStand blocks firsts f
-like_stands rows blocks firsts k row f children all stand longer at_k (inl is) = inl is
-like_stands rows blocks firsts k row f children all stand longer at_k (inr like) =
-    let inside = slice_get_within rows k row at_k in
-    let parent_low = stand.before row.parent.0 like.parent like.is_parent in
-    let parent_within = slice_get_within firsts row.parent.0 like.parent like.is_parent in
-    let parent = element blocks row.parent.0 (omega (arith, parent_within, longer, inside, all)) in
-    let found_within = slice_get_within rows like.found (step_from like.parent.0 row.mode row.child 0) like.is_found in
-    let found = element blocks (like.found + 1) (omega (arith, found_within, all)) in
-    let next = element blocks (k + 1) (omega (arith, inside, all)) in
-    let like_block : slice_get blocks like.parent.0 ≡ Some parent.0 = stand.same row.parent.0 like.parent like.is_parent ∙ parent.1 in
-    let one = children.each like.found (step_from like.parent.0 row.mode row.child 0) parent.0 like.is_found like_block in
-    let two = children.each k row parent.0 at_k parent.1 in
-    let same = one_child parent.0 row.mode row.child 0 row.instance found.0 next.0 (sym one ∙ found.1) (sym two ∙ next.1) in
-    let here : slice_get blocks (like.found + 1) ≡ slice_get blocks (k + 1) = found.1 ∙ ap Some same ∙ sym next.1 in
-    inr (
-      stand.itself (like.found + 1) f like.is_first,
-      stand.same (like.found + 1) f like.is_first ∙ here ∙ ap (λ n. slice_get blocks n) (sym longer),
-    )
+-- the first instance's pb_type in a graph
+pub same_block : (g : Graph) (n f : ℕ) (a : Address) → IsNumbering g.root g.instances → slice_get g.instances n ≡ Some a → slice_get g.instances f ≡ Some (first_address a) →
+    block_at g f ≡ block_at g n
+same_block g n f a numbering at_n at_f =
+    let some = (numbering.exact a).0 (has_at g.instances n a at_n) in
+    ap (option_and_then (λ x. at g.root x)) at_f ∙ at_first g.root a some ∙ sym (ap (option_and_then (λ x. at g.root x)) at_n)

@@ -1,16 +1,16 @@
 pub mod Told
 pub mod Lists
+pub mod Ranked
 pub mod RowLemmas
 pub mod Insides
 pub mod Blocks
 pub mod Grows
 pub mod Copies
-pub mod EndLemmas
 pub mod Fills
+pub mod ShapeLemmas
 pub mod PinLemmas
 pub mod BlockList
 pub mod SetLemmas
-pub mod Firsts
 pub mod TypeLemmas
 pub mod FirstFaults
 pub mod Numbers
@@ -18,6 +18,8 @@ pub mod Batch
 pub mod EdgeList
 pub mod PinsThere
 pub mod PinPlaces
+pub mod LocalPins
+pub mod Firsts
 pub mod Excess
 pub mod ModeLists
 pub mod KeptModes
@@ -26,3 +28,8 @@ pub mod Verdicts
 pub mod Parts
 pub mod Tying
 pub mod OneOwner
+pub mod AllGraphs
+pub mod OneGraph
+pub mod Sides
+pub mod EdgeLists
+pub mod Halves

@@ -1,9 +1,9 @@
 -- Reading lists.
 use Rattle.std.proofs.Common.{◌≡◌, ◌+◌, ◌<◌, ◌≤◌, ◌⊎◌, ℕ, zero, suc, Bool, true, false, not, nat_lt, cond, List, [], ◌∷◌, ◌++◌, Option, Some, None, MatchOption, length, get_or, slice_get, map, Bor, position, refl, sym, ap, ◌∙◌, inl, inr, arith}
-use Rattle.std.proofs.lemmas.Option.{slice_get_within, get_or_from_slice_get, slice_get-map, slice_get_read}
+use Rattle.std.proofs.lemmas.Option.{slice_get_within, slice_get-get_or, get_or_from_slice_get, slice_get-map, slice_get_read}
 use Rattle.std.proofs.lemmas.List.Sums.{fails_before_first, prefix_len_stops}
 use Rattle.std.proofs.lemmas.Bool.Decides.{nat_tests}
-use Rattle.std.specs.List.{position_or_len}
+use Rattle.std.specs.List.{position_or_len, All}
 use Rattle.std.specs.Option.{option_map}
 use Rattle.vtr_base.specs.Lists.{Has}
 
@@ -95,3 +95,12 @@ get_behind [] ys k x e = let same : 0 + k ≡ k = omega arith in ap (λ n. slice
 get_behind (y ∷ xs) ys k x e =
     let next : length (y ∷ xs) + k ≡ suc (length xs + k) = omega arith in
     ap (λ n. slice_get (y ∷ (xs ++ ys)) n) next ∙ get_behind xs ys k x e
+
+pub read_itself : {X : Type 0} (xs : List X) (k : ℕ) (d : X) → k < length xs → get_or xs k d ≡ get_or xs k (get_or xs k d)
+read_itself [] k d inside = absurd (omega arith)
+read_itself (x ∷ xs) zero d inside = refl
+read_itself (x ∷ xs) (suc k) d inside = read_itself xs k d (omega arith)
+
+-- what holds by places holds of all
+pub all_at : {X : Type 0} (P : X → Type 0) (xs : List X) → ((k : ℕ) (x : X) → slice_get xs k ≡ Some x → P x) → All P xs
+all_at P xs each k d inside = each k (get_or xs k d) (slice_get-get_or xs k d inside)

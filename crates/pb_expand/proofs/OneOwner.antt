@@ -74,14 +74,14 @@ all_are block mode (text ∷ texts) pins p names has =
       | inr right ↦ all_are block mode texts names.1 p names.3 right
     ]
 
-edge_end : (block : PbType) (mode : Mode) (inter : ℕ) (s d : LocalPin) → IsEdge block mode inter s d → IsEnd block mode d
+pub edge_end : (block : PbType) (mode : Mode) (inter : ℕ) (s d : LocalPin) → IsEdge block mode inter s d → IsEnd block mode d
 edge_end block mode inter s d edge =
     let gives = edge.gives.1 in
     all_are block mode gives.reads_outs.words gives.outs d gives.reads_outs.names
     (pair_has gives.here.kind gives.ins gives.outs edge.gives.0 s d gives.pair).1
 
 -- the pb_type of an instance of a child
-kid_at : (root : PbType) (a : Address) (m : ℕ) (block : PbType) (mode : Mode) (c : ChildAt) (kid : PbType) → at root a ≡ Some block →
+pub kid_at : (root : PbType) (a : Address) (m : ℕ) (block : PbType) (mode : Mode) (c : ChildAt) (kid : PbType) → at root a ≡ Some block →
     slice_get (modes_of block.kind) m ≡ Some mode → slice_get (kids_of mode) c.child ≡ Some kid → c.instance < kid.count →
     at root (step_to a m c.child c.instance) ≡ Some kid
 kid_at root a m block mode c kid at_a is_mode is_kid counted =

@@ -15,7 +15,7 @@ use Rattle.mode_edges.specs.declared.pin.ChildAt.{ChildAt}
 use Rattle.mode_edges.specs.Edges.{AreEdges}
 use Rattle.pb_expand.specs.declared.number.Step.{Step}
 use Rattle.pb_expand.specs.declared.number.PinAt.{PinAt}
-use Rattle.pb_expand.specs.Graph.{Graph, ports_at, pin_at, pins_from, step_from, hop_of}
+use Rattle.pb_expand.specs.Graph.{Graph, LeadsTo, ports_at, pin_at, pins_from, step_from, hop_of}
 use Rattle.pb_expand.specs.Rows.{addresses, IsTree}
 use Rattle.pb_expand.specs.Expansion.{owner_address, IsPin}
 use Rattle.pb_expand.specs.Making.{AreBlocks, Stands, IsOwner, HasPlace, HavePlaces}
@@ -26,7 +26,7 @@ use Rattle.pb_expand.proofs.Blocks.{at_step}
 use Rattle.pb_expand.proofs.EdgeList.{child_stands}
 use Rattle.pb_expand.proofs.PinsThere.{HasBit, IsThereAt, edge_there}
 
-not_root : (a : Address) (h : Hop) → [] ≡ a ++ h ∷ [] → ⊥
+pub not_root : (a : Address) (h : Hop) → [] ≡ a ++ h ∷ [] → ⊥
 not_root [] h e = cc
 not_root (x ∷ a) h e = cc
 
@@ -56,6 +56,12 @@ row_below root rows n mode child instance (suc k) a tree numbering at_n at_j =
     let parents : row.0.parent.0 ≡ n = numbering.once row.0.parent.0 n a (says.is_parent ∙ ap Some fronts) at_n in
     let steps : step_by row.0.parent.0 (hop_of row.0) ≡ step_by n (hop mode child instance) = cc (parents, hops) in
     (k, here, row.1 ∙ ap Some steps)
+
+pub below_leads : (root : PbType) (rows : List Step) (n mode child instance j : ℕ) (a : Address) → IsTree rows → IsNumbering root (addresses rows) →
+    slice_get (addresses rows) n ≡ Some a → slice_get (addresses rows) j ≡ Some (step_to a mode child instance) → LeadsTo (addresses rows) (step_from n mode child instance) j
+below_leads root rows n mode child instance j a tree numbering at_n at_j =
+    let row = row_below root rows n mode child instance j a tree numbering at_n at_j in
+    subst (λ k. LeadsTo (addresses rows) (step_from n mode child instance) k) (sym row.1) (row_says rows row.0 (step_from n mode child instance) tree row.2)
 
 -- where a row says which instance has a pin, that instance stands at the pin's address
 pub owner_stands : (rows : List Step) (owner mode : ℕ) (child : Option ChildAt) (pb : ℕ) → IsTree rows → IsOwner rows owner mode child pb → (a : Address) →

@@ -11,7 +11,6 @@ use Rattle.arch_types.proofs.Once.{has_left, has_right}
 use Rattle.mode_edges.specs.declared.faults.EdgeError.{EdgeError}
 use Rattle.mode_edges.specs.declared.faults.EdgeError.TheVariants as edge
 use Rattle.mode_edges.specs.Faults.{IsSound}
-use Rattle.pb_expand.specs.declared.error.ExpandError.{ExpandError}
 use Rattle.pb_expand.specs.declared.error.SizeError.{SizeError}
 use Rattle.pb_expand.specs.declared.error.SizeError.TheVariants as size
 use Rattle.pb_expand.specs.declared.number.Edge.{Edge}

@@ -1,23 +1,20 @@
--- The edges of a graph, found by the pin into which they lead and their mode.
-use Rattle.std.specs.Prelude.{◌≡◌, ◌==◌, ◌&&◌, ℕ, Bool, List, []}
-use Rattle.std.specs.Option.{option_map_or}
-use Rattle.std.specs.HashMap.{HashMap, get}
+-- Edges found by the pins that they join.
+use Rattle.std.specs.Prelude.{◌≡◌, ◌<◌, ◌+◌, ◌↔◌, ℕ, List, [], ◌∷◌, Some, slice_get}
+use Rattle.vtr_base.specs.Lists.{Has}
 use Rattle.pb_expand.specs.declared.number.EdgeIx.{EdgeIx}
 use Rattle.pb_expand.specs.declared.number.Edge.{Edge}
-use Rattle.pb_expand.specs.declared.number.End.{End}
-use Rattle.pb_expand.specs.Graph.{into_from, pin_ix}
+use Rattle.pb_expand.specs.Graph.{Graph, edge_ix, into_from}
 
--- two ends are one
-abbrev pub same_end : End → End → Bool
-same_end e f = (e.pin.0 == f.pin.0) && (e.mode == f.mode)
+-- the list holds exactly the numbers of these edges, ascending
+pub record AreEdgesWith (g : Graph) (Is : Edge → Type 0) (list : List EdgeIx) : Type 0 where
+  pub exact : (k : ℕ) → Has list (edge_ix k) ↔ ((e : Edge) × (slice_get g.edges k ≡ Some e) × Is e)
+  pub ascending : (i j : ℕ) (a b : EdgeIx) → i < j → slice_get list i ≡ Some a → slice_get list j ≡ Some b → a.0 < b.0
 
-abbrev pub end_at : ℕ → ℕ → End
-end_at pin mode = record { pin = pin_ix pin; mode = mode }
+-- what `edges_into` lists: the edges with this end in this mode
+abbrev pub ListsEnds : Graph → Type 0
+ListsEnds g = (pin mode : ℕ) → AreEdgesWith g (λ e. (e.dst.0 ≡ pin) × (e.mode ≡ mode)) (into_from 0 g.edges pin mode)
 
--- what a table of ends holds for one; nothing where it has no entry
-abbrev pub listed : {S : Type 0} → HashMap End (List EdgeIx) S → ℕ → ℕ → List EdgeIx
-listed into pin mode = option_map_or (λ (es : List EdgeIx). es) (get same_end into (end_at pin mode)) []
-
--- the table holds for each end the edges into it
-pub record AreEnds {S : Type 0} (edges : List Edge) (into : HashMap End (List EdgeIx) S) : Type 0 where
-  pub are : (pin mode : ℕ) → listed into pin mode ≡ into_from 0 edges pin mode
+-- each edge by a pin of it, with its number, counted from n on
+abbrev pub pairs_from : (Edge → ℕ) → ℕ → List Edge → List (ℕ × EdgeIx)
+pairs_from pin n [] = []
+pairs_from pin n (e ∷ es) = (pin e, edge_ix n) ∷ pairs_from pin (n + 1) es

@@ -1,5 +1,5 @@
 -- A graph is the expansion of its block type.
-use Rattle.std.specs.Prelude.{◌≡◌, ◌≤◌, ◌<◌, ◌+◌, ◌⊎◌, ◌↔◌, ℕ, List, Option, Some, None, length, slice_get}
+use Rattle.std.specs.Prelude.{◌≡◌, ◌≤◌, ◌<◌, ◌⊎◌, ◌↔◌, ℕ, List, Option, Some, None, length, slice_get}
 use Rattle.vtr_base.specs.Lists.{Has}
 use Rattle.arch_types.specs.declared.block.PbType.{PbType}
 use Rattle.arch_types.specs.declared.block.Port.{Port}
@@ -40,12 +40,6 @@ pub record IsEdgeOf (g : Graph) (e : Edge) : Type 0 where
   pub is_src : StandsAt g e.src.0 address e.mode src
   pub is_dst : StandsAt g e.dst.0 address e.mode dst
 
--- e stands no later than f: by owner, then by mode, then by interconnect
-abbrev pub IsNotAfter : Edge → Edge → Type 0
-IsNotAfter e f =
-    (e.owner.0 < f.owner.0)
-    ⊎ ((e.owner.0 ≡ f.owner.0) × ((e.mode < f.mode) ⊎ ((e.mode ≡ f.mode) × (e.inter ≤ f.inter))))
-
 -- the edge is that local edge, for a block at an address and one of its modes
 pub record IsLocal (g : Graph) (e : Edge) (address : Address) (mode : ℕ) (l : LocalEdge) : Type 0 where
   pub inter : e.inter ≡ l.inter
@@ -53,25 +47,39 @@ pub record IsLocal (g : Graph) (e : Edge) (address : Address) (mode : ℕ) (l : 
   pub is_src : StandsAt g e.src.0 address mode l.src
   pub is_dst : StandsAt g e.dst.0 address mode l.dst
 
--- the edges of a mode of an instance stand together from place `from` on, in the order of a list of
--- the mode's edges
-pub record StandTogether (g : Graph) (owner : ℕ) (address : Address) (m : ℕ) (block : PbType) (mode : Mode) : Type 0 where
+-- two edges of one mode of an instance stand as in the mode's list of edges: by interconnect, then
+-- as its input names their sources, then as its output names their ends
+pub record AreInTurn (g : Graph) (e f : Edge) : Type 0 where
+  pub address : Address
+  pub is_owner : slice_get g.instances e.owner.0 ≡ Some address
+  pub block : PbType
+  pub is_block : at g.root address ≡ Some block
+  pub mode : Mode
+  pub is_mode : slice_get (modes_of block.kind) e.mode ≡ Some mode
   pub local : List LocalEdge
   pub are : AreEdges block mode local
-  pub from : ℕ
-  pub each : (k : ℕ) (l : LocalEdge) → slice_get local k ≡ Some l → (e : Edge) × (slice_get g.edges (from + k) ≡ Some e) × (e.owner.0 ≡ owner) × IsLocal g e address m l
+  pub i : ℕ
+  pub j : ℕ
+  pub less : i < j
+  pub first : LocalEdge
+  pub second : LocalEdge
+  pub at_i : slice_get local i ≡ Some first
+  pub at_j : slice_get local j ≡ Some second
+  pub is_first : IsLocal g e address e.mode first
+  pub is_second : IsLocal g f address e.mode second
 
--- exactly the edges of the block type, each pair once in a mode of an instance, in the order of
--- their owners, for one owner in the order of its modes, and for one mode in the order of its edges:
--- that of their interconnects, and of each of these the order in which its input names their sources
+-- e stands before f: by owner, then by mode, then as in the mode's list
+abbrev pub StandsBefore : Graph → Edge → Edge → Type 0
+StandsBefore g e f =
+    (e.owner.0 < f.owner.0) ⊎ ((e.owner.0 ≡ f.owner.0) × ((e.mode < f.mode) ⊎ ((e.mode ≡ f.mode) × AreInTurn g e f)))
+
+-- exactly the edges of the block type, each pair once in a mode of an instance, in order
 pub record HasEdges (g : Graph) : Type 0 where
   pub each : (e : Edge) → Has g.edges e → IsEdgeOf g e
   pub all : (e : Edge) → IsEdgeOf g e → Has g.edges e
   pub once : (i j : ℕ) (e f : Edge) → slice_get g.edges i ≡ Some e → slice_get g.edges j ≡ Some f →
       e.owner ≡ f.owner → e.mode ≡ f.mode → e.src ≡ f.src → e.dst ≡ f.dst → i ≡ j
-  pub ordered : (i j : ℕ) (e f : Edge) → i < j → slice_get g.edges i ≡ Some e → slice_get g.edges j ≡ Some f → IsNotAfter e f
-  pub together : (owner : ℕ) (address : Address) (block : PbType) (m : ℕ) (mode : Mode) → slice_get g.instances owner ≡ Some address → at g.root address ≡ Some block →
-      slice_get (modes_of block.kind) m ≡ Some mode → StandTogether g owner address m block mode
+  pub ordered : (i j : ℕ) (e f : Edge) → i < j → slice_get g.edges i ≡ Some e → slice_get g.edges j ≡ Some f → StandsBefore g e f
 
 -- there is such a pin: the instance has that port, and the port that bit
 pub record IsPin (g : Graph) (pb port bit : ℕ) : Type 0 where
@@ -96,3 +104,11 @@ pub record IsExpansion (g : Graph) : Type 0 where
   pub few_instances : length g.instances ≤ 1048576
   pub few_pins : length g.pins ≤ 1048576
   pub few_edges : length g.edges ≤ 4194304
+
+-- a block type has one graph
+abbrev pub HasOneGraph : Type 0
+HasOneGraph = (g h : Graph) → IsExpansion g → IsExpansion h → g.root ≡ h.root → g.block ≡ h.block → g ≡ h
+
+-- the pin of number n is that local pin of a mode of instance `owner`
+abbrev pub IsLocalPin : Graph → ℕ → ℕ → LocalPin → ℕ → Type 0
+IsLocalPin g owner mode pin n = (address : Address) × (slice_get g.instances owner ≡ Some address) × StandsAt g n address mode pin

@@ -1,5 +1,5 @@
 -- What a `PbGraph` is to callers: the block type's tree, and its instances, pins and edges by number.
-use Rattle.std.specs.Prelude.{◌≡◌, ◌==◌, ◌&&◌, ◌<◌, ◌+◌, ℕ, List, [], ◌∷◌, ◌++◌, Option, Some, map, length, slice_get, if◌then◌else◌}
+use Rattle.std.specs.Prelude.{◌≡◌, ◌==◌, ◌&&◌, ◌<◌, ◌+◌, ℕ, Bool, List, [], ◌∷◌, ◌++◌, Option, Some, map, length, slice_get, if◌then◌else◌}
 use Rattle.std.specs.Option.{option_map_or, option_and_then}
 use Rattle.vtr_base.specs.Lists.{up_from}
 use Rattle.arch_types.specs.declared.block.PbType.{PbType}
@@ -8,7 +8,8 @@ use Rattle.arch_types.specs.declared.block.AtomKind.TheVariants as atom
 use Rattle.arch_types.specs.declared.block.Kind.{Kind, out-Kind}
 use Rattle.arch_types.specs.declared.block.Kind.TheOpen.{InPad, OutPad, Lut, Latch, Cell, Modes}
 use Rattle.arch_types.specs.declared.block.Mode.{Mode}
-use Rattle.arch_types.specs.Tree.{modes_of}
+use Rattle.arch_types.specs.declared.block.Inter.{Inter}
+use Rattle.arch_types.specs.Tree.{modes_of, inters_of}
 use Rattle.arch_types.specs.Address.{Address, Hop, at, step_to, instances_of}
 use Rattle.pb_expand.specs.declared.number.PbIx.{PbIx}
 use Rattle.pb_expand.specs.declared.number.PinIx.{PinIx}
@@ -46,9 +47,17 @@ ports_at root address = option_map_or (λ (block : PbType). block.ports) (at roo
 abbrev pub block_at : Graph → ℕ → Option PbType
 block_at g n = option_and_then (λ address. at g.root address) (slice_get g.instances n)
 
+-- the ports of the instance of number n
+abbrev pub ports_of : Graph → ℕ → List Port
+ports_of g n = option_map_or (λ (block : PbType). block.ports) (block_at g n) []
+
 -- that mode of the instance of number n
 abbrev pub mode_at : Graph → ℕ → ℕ → Option Mode
 mode_at g n mode = option_and_then (λ (block : PbType). slice_get (modes_of block.kind) mode) (block_at g n)
+
+-- the interconnect that gives an edge
+abbrev pub inter_of : Graph → Edge → Option Inter
+inter_of g e = option_and_then (λ mode. slice_get (inters_of mode) e.inter) (mode_at g e.owner.0 e.mode)
 
 -- the pins of instance `pb`, port by port from that number on, and of each its bits
 abbrev pub pins_of_ports : ℕ → ℕ → List Port → List PinAt
@@ -75,11 +84,14 @@ kind_of k = elim (out-Kind k) [
   | Modes modes ↦ kinds.Modes (length modes)
 ]
 
--- the numbers of the edges into a pin in one mode, in the order of the edges, counted from n on
+-- the numbers of the edges that pass a test, in their order, counted from n on
+abbrev pub edges_with : (Edge → Bool) → ℕ → List Edge → List EdgeIx
+edges_with passes n [] = []
+edges_with passes n (e ∷ es) = if passes e then edge_ix n ∷ edges_with passes (n + 1) es else edges_with passes (n + 1) es
+
+-- the numbers of the edges into a pin in one mode
 abbrev pub into_from : ℕ → List Edge → ℕ → ℕ → List EdgeIx
-into_from n [] pin mode = []
-into_from n (e ∷ es) pin mode =
-    if (e.dst.0 == pin) && (e.mode == mode) then edge_ix n ∷ into_from (n + 1) es pin mode else into_from (n + 1) es pin mode
+into_from n es pin mode = edges_with (λ e. (e.dst.0 == pin) && (e.mode == mode)) n es
 
 -- the step from instance `parent`
 abbrev pub step_from : ℕ → ℕ → ℕ → ℕ → Step
@@ -96,3 +108,11 @@ pub record LeadsTo (instances : List Address) (s : Step) (n : ℕ) : Type 0 wher
   pub parent : Address
   pub is_parent : slice_get instances s.parent.0 ≡ Some parent
   pub is_child : slice_get instances n ≡ Some (step_to parent s.mode s.child s.instance)
+
+-- the same hop to the first instance of the child
+abbrev pub first_hop : Hop → Hop
+first_hop hop = record { mode = hop.mode; child = hop.child; instance = 0 }
+
+-- the address with the same modes and children, and everywhere the first instance
+abbrev pub first_address : Address → Address
+first_address address = map first_hop address

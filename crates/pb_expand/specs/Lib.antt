@@ -2,8 +2,12 @@ pub mod Graph
 pub mod Expansion
 pub mod Types
 pub mod Refusals
-pub mod Rows
-pub mod Ends
-pub mod Making
-pub mod Tied
 pub mod OneOwner
+pub mod Kept
+pub mod Ends
+pub mod All
+pub mod Rows
+pub mod Making
+pub mod Shapes
+pub mod Tied
+pub mod Telling

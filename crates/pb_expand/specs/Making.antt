@@ -5,7 +5,7 @@ use Rattle.vtr_base.specs.Lists.{Has}
 use Rattle.arch_types.specs.declared.block.PbType.{PbType}
 use Rattle.arch_types.specs.declared.block.Mode.{Mode}
 use Rattle.arch_types.specs.Tree.{modes_of}
-use Rattle.arch_types.specs.Address.{Address, at, child_at}
+use Rattle.arch_types.specs.Address.{Address, at}
 use Rattle.mode_edges.specs.declared.pin.LocalPin.{LocalPin}
 use Rattle.mode_edges.specs.declared.pin.LocalEdge.{LocalEdge}
 use Rattle.mode_edges.specs.declared.pin.ChildAt.{ChildAt}
@@ -16,13 +16,13 @@ use Rattle.pb_expand.specs.declared.number.PinAt.{PinAt}
 use Rattle.pb_expand.specs.declared.number.Edge.{Edge}
 use Rattle.pb_expand.specs.declared.number.PbIx.{PbIx}
 use Rattle.pb_expand.specs.declared.edges.ModeEdges.{ModeEdges}
-use Rattle.pb_expand.specs.Graph.{pin_ix, pb_ix, pin_at, pins_of_ports, step_from, hop_of}
-use Rattle.pb_expand.specs.Expansion.{owner_address, IsNotAfter}
+use Rattle.pb_expand.specs.Graph.{pin_ix, pb_ix, pin_at, pins_of_ports, step_from, first_address}
+use Rattle.pb_expand.specs.Expansion.{owner_address}
 use Rattle.pb_expand.specs.Rows.{addresses, IsTree}
 
--- each pb_type has fewer than 2^32 modes
+-- each pb_type has fewer than 2^32 modes and ports
 pub record AreShort (blocks : List PbType) : Type 0 where
-  pub each : (n : ℕ) (block : PbType) → slice_get blocks n ≡ Some block → length (modes_of block.kind) < 2 ^ 32
+  pub each : (n : ℕ) (block : PbType) → slice_get blocks n ≡ Some block → (length (modes_of block.kind) < 2 ^ 32) × (length block.ports < 2 ^ 32)
 
 -- the pb_types of the instances, by number
 pub record AreBlocks (root : PbType) (instances : List Address) (blocks : List PbType) : Type 0 where
@@ -34,24 +34,15 @@ abbrev pub pins_over : ℕ → List PbType → List PinAt
 pins_over n [] = []
 pins_over n (block ∷ blocks) = pins_of_ports n 0 block.ports ++ pins_over (n + 1) blocks
 
--- the row of an instance says which child of its parent's pb_type it is
-pub record AreChildren (rows : List Step) (blocks : List PbType) : Type 0 where
-  pub each : (k : ℕ) (s : Step) (parent : PbType) → slice_get rows k ≡ Some s → slice_get blocks s.parent.0 ≡ Some parent →
-      slice_get blocks (k + 1) ≡ child_at parent (hop_of s)
+-- for each instance the one at the same address with the first instance of each child
+pub record AreFirsts (instances : List Address) (firsts : List PbIx) : Type 0 where
+  pub all : length firsts ≡ length instances
+  pub each : (n : ℕ) (a : Address) (f : PbIx) → slice_get instances n ≡ Some a → slice_get firsts n ≡ Some f → slice_get instances f.0 ≡ Some (first_address a)
 
 -- for each instance one of the same pb_type, which stands for itself
 pub record StandFor (blocks : List PbType) (firsts : List PbIx) : Type 0 where
-  pub before : (n : ℕ) (f : PbIx) → slice_get firsts n ≡ Some f → f.0 ≤ n
   pub itself : (n : ℕ) (f : PbIx) → slice_get firsts n ≡ Some f → slice_get firsts f.0 ≡ Some f
   pub same : (n : ℕ) (f : PbIx) → slice_get firsts n ≡ Some f → slice_get blocks f.0 ≡ slice_get blocks n
-
--- f stands for an instance that is the same child, as instance 0, of the one that stands for the parent
-pub record IsLike (rows : List Step) (firsts : List PbIx) (row : Step) (f : PbIx) : Type 0 where
-  pub parent : PbIx
-  pub is_parent : slice_get firsts row.parent.0 ≡ Some parent
-  pub found : ℕ
-  pub is_found : slice_get rows found ≡ Some (step_from parent.0 row.mode row.child 0)
-  pub is_first : slice_get firsts (found + 1) ≡ Some f
 
 -- no element has two places
 abbrev pub AreOnce : {X : Type 0} → List X → Type 0
@@ -107,13 +98,27 @@ pub record IsMade (blocks : List PbType) (instances : List Address) (pins : List
 abbrev pub IsBefore : ℕ → ℕ → Edge → Type 0
 IsBefore n mode e = (e.owner.0 < n) ⊎ ((e.owner.0 ≡ n) × (e.mode < mode))
 
--- the edges of a mode of an instance stand together from place `from` on, in the order of a list of
--- the mode's edges
-pub record IsPart (instances : List Address) (pins : List PinAt) (edges : List Edge) (owner m : ℕ) (block : PbType) (mode : Mode) : Type 0 where
+-- two edges of one mode of an instance stand as in the mode's list of edges
+pub record StandInTurn (blocks : List PbType) (instances : List Address) (pins : List PinAt) (e f : Edge) : Type 0 where
+  pub block : PbType
+  pub is_block : slice_get blocks e.owner.0 ≡ Some block
+  pub mode : Mode
+  pub is_mode : slice_get (modes_of block.kind) e.mode ≡ Some mode
   pub local : List LocalEdge
   pub are : AreEdges block mode local
-  pub from : ℕ
-  pub placed : (k : ℕ) (l : LocalEdge) → slice_get local k ≡ Some l → (e : Edge) × (slice_get edges (from + k) ≡ Some e) × IsPlaced instances pins owner m l e
+  pub i : ℕ
+  pub j : ℕ
+  pub less : i < j
+  pub first : LocalEdge
+  pub second : LocalEdge
+  pub at_i : slice_get local i ≡ Some first
+  pub at_j : slice_get local j ≡ Some second
+  pub is_first : IsPlaced instances pins e.owner.0 e.mode first e
+  pub is_second : IsPlaced instances pins e.owner.0 e.mode second f
+
+abbrev pub Precedes : List PbType → List Address → List PinAt → Edge → Edge → Type 0
+Precedes blocks instances pins e f =
+    (e.owner.0 < f.owner.0) ⊎ ((e.owner.0 ≡ f.owner.0) × ((e.mode < f.mode) ⊎ ((e.mode ≡ f.mode) × StandInTurn blocks instances pins e f)))
 
 -- exactly the edges before a mode of an instance, in their order
 pub record AreBefore (blocks : List PbType) (instances : List Address) (pins : List PinAt) (n mode : ℕ) (edges : List Edge) : Type 0 where
@@ -121,9 +126,7 @@ pub record AreBefore (blocks : List PbType) (instances : List Address) (pins : L
   pub all : (e : Edge) → IsMade blocks instances pins e → IsBefore n mode e → Has edges e
   pub once : (i j : ℕ) (e f : Edge) → slice_get edges i ≡ Some e → slice_get edges j ≡ Some f →
       e.owner ≡ f.owner → e.mode ≡ f.mode → e.src ≡ f.src → e.dst ≡ f.dst → i ≡ j
-  pub ordered : (i j : ℕ) (e f : Edge) → i < j → slice_get edges i ≡ Some e → slice_get edges j ≡ Some f → IsNotAfter e f
-  pub parts : (o m : ℕ) (block : PbType) (is : Mode) → (o < n) ⊎ ((o ≡ n) × (m < mode)) → slice_get blocks o ≡ Some block → slice_get (modes_of block.kind) m ≡ Some is →
-      IsPart instances pins edges o m block is
+  pub ordered : (i j : ℕ) (e f : Edge) → i < j → slice_get edges i ≡ Some e → slice_get edges j ≡ Some f → Precedes blocks instances pins e f
 
 -- the instance of number pb has a pin of a mode of instance `owner`, as a row says
 abbrev pub IsOwner : List Step → ℕ → ℕ → Option ChildAt → ℕ → Type 0

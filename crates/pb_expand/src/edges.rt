@@ -13,7 +13,7 @@ use crate::places::Places;
 use crate::{Edge, PbIx, PinAt, PinIx, Step};
 use arch_types::{Mode, PbType};
 use indexmap::IndexSet;
-use mode_edges::{ChildAt, LocalEdge, LocalPin, edges_of_mode};
+use mode_edges::{ChildAt, LocalEdge, LocalPin, ModeNames, PortNames};
 use std::alloc::{AllocError, Global};
 
 const MOST_EDGES: usize = 4194304;
@@ -72,7 +72,7 @@ fn push_owner(
     ensures many { IsErrOf result SizeError.TooMany → AreMore (map (λ b. b.now) places.now.blocks.items) (addresses places.now.rows.keys) places.now.pins.keys 4194304 }
 {
     let first = places.firsts[owner.0 as usize];
-    if first.0 == owner.0 {
+    if first.0 >= owner.0 {
         return push_new(alloc, edges, places, owner);
     }
     push_known(edges, places, owner, lists[first.0 as usize].as_slice())?;
@@ -96,10 +96,11 @@ fn push_new(
     ensures many { IsErrOf result SizeError.TooMany → AreMore (map (λ b. b.now) places.now.blocks.items) (addresses places.now.rows.keys) places.now.pins.keys 4194304 }
 {
     let block: &PbType = places.blocks[owner.0 as usize];
+    let ports = PortNames::new(alloc, block)?;
     let mut kept = Vec::new(alloc);
     for (mode, is) in modes_in(block).iter().enumerate() {
         let number = mode as u32;
-        let local = local_edges(alloc, block, is, MOST_EDGES - edges.len())?;
+        let local = local_edges(alloc, &ports, is, MOST_EDGES - edges.len())?;
         push_local(edges, places, owner, number, local.as_slice())?;
         keep(&mut kept, number, local)?;
     }
@@ -143,19 +144,20 @@ fn push_known(
     Ok(())
 }
 
-/// The edges of a mode of a pb_type, where there are at most `most`.
+/// The edges of a mode of the pb_type whose ports these are, where there are at most `most`.
 fn local_edges(
     alloc: Global,
-    block: &PbType,
+    ports: &PortNames<'_>,
     mode: &Mode,
     most: usize,
 ) -> Result<Vec<LocalEdge>, SizeError>
-    requires { IsSound block.now mode.now }
-    ensures edges { IfOk result (λ edges. AreEdges block.now mode.now edges.items) }
+    requires { IsSound ports.now mode.now }
+    ensures edges { IfOk result (λ edges. AreEdges ports.now mode.now edges.items) }
     ensures few { IfOk result (λ edges. length edges.items ≤ most) }
-    ensures many { IsErrOf result SizeError.TooMany → HasMoreEdges block.now mode.now most }
+    ensures many { IsErrOf result SizeError.TooMany → HasMoreEdges ports.now mode.now most }
 {
-    match edges_of_mode(alloc, block, mode, most)? {
+    let names = ModeNames::new(alloc, ports, mode)?;
+    match names.edges(alloc, most)? {
         Some(edges) => Ok(edges),
         None => Err(SizeError::TooMany),
     }
@@ -216,7 +218,12 @@ fn place_of(
 }
 
 /// The number of the instance that has a pin of a mode of an instance.
-fn owner_of(rows: &IndexSet<Step>, owner: PbIx, mode: u32, child: Option<ChildAt>) -> PbIx
+pub(crate) fn owner_of(
+    rows: &IndexSet<Step>,
+    owner: PbIx,
+    mode: u32,
+    child: Option<ChildAt>,
+) -> PbIx
     requires tree { IsTree rows.now.keys }
     requires few { length rows.now.keys ≤ 1048575 }
     requires there { (pb : ℕ) × IsOwner rows.now.keys owner.0 mode child pb }

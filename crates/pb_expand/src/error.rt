@@ -35,6 +35,14 @@ impl From<AllocError> for ExpandError {
     }
 }
 
+impl<T: Drop> From<AllocFailed<T>> for ExpandError {
+    ghost from_gives = { λ _ e. e ≡ OutOfMemory };
+
+    fn from(_e: AllocFailed<T>) -> ExpandError {
+        ExpandError::OutOfMemory
+    }
+}
+
 impl From<EdgeError> for ExpandError {
     ghost from_gives = { λ e told. told ≡ edge_told e };
 

@@ -4,7 +4,7 @@ ghost use Rattle.pb_expand.specs.Refusals.{AreSound, TellsFirstIn};
 
 use crate::graph::modes_in;
 use arch_types::PbType;
-use mode_edges::{EdgeError, check_mode};
+use mode_edges::{EdgeError, ModeNames, PortNames};
 use std::alloc::Global;
 
 /// Whether each interconnect of a tree of pb_types names pins rightly. The first that doesn't is
@@ -27,8 +27,10 @@ fn check_own(alloc: Global, block: &PbType) -> Result<(), EdgeError>
     ensures sound { IfOk result (λ _. AreSound (own_modes block.now)) }
     ensures fault { IfErr result (λ e. TellsFirstIn (own_modes block.now) e) }
 {
+    let ports = PortNames::new(alloc, block)?;
     for mode in modes_in(block) {
-        check_mode(alloc, block, mode)?;
+        let names = ModeNames::new(alloc, &ports, mode)?;
+        names.check(alloc)?;
     }
     Ok(())
 }

@@ -1,10 +1,14 @@
 ghost use Rattle.std.specs.Prelude.{◌≡◌, ◌≤◌, ◌<◌, ◌^◌, ◌↔◌, ℕ, Some, IsNone, IsSome, IfSome, IfOk, IfErr, MatchOption, length, slice_get};
-ghost use Rattle.std.specs.Option.{option_map};
+ghost use Rattle.std.specs.Option.{option_map, option_and_then};
 ghost use Rattle.arch_types.specs.Tree.{modes_of, name_of_mode};
 ghost use Rattle.arch_types.specs.Address.{child_at};
-ghost use Rattle.pb_expand.specs.Graph.{LeadsTo, block_at, mode_at, kind_of, into_from, pin_at, step_from, hop_of};
-ghost use Rattle.pb_expand.specs.Ends.{listed};
-ghost use Rattle.pb_expand.specs.Expansion.{IsExpansion, IsPin};
+ghost use Rattle.arch_types.specs.Tree.{inters_of};
+ghost use Rattle.mode_edges.specs.declared.pin.LocalPin.{LocalPin};
+ghost use Rattle.pb_expand.specs.Graph.{LeadsTo, block_at, mode_at, inter_of, ports_of, kind_of, into_from, pins_of_ports, pin_at, step_from, hop_of, first_address};
+ghost use Rattle.pb_expand.specs.Ends.{AreEdgesWith, ListsEnds};
+ghost use Rattle.pb_expand.specs.Shapes.{HasPinsFrom};
+ghost use Rattle.pb_expand.specs.Kept.{IsKept};
+ghost use Rattle.pb_expand.specs.Expansion.{IsExpansion, IsPin, IsLocalPin};
 ghost use Rattle.pb_expand.specs.OneOwner.{HasOneOwner};
 ghost use Rattle.pb_expand.specs.Types.{modes_in_tree};
 ghost use Rattle.pb_expand.specs.Refusals.{AreSound, IsTooLarge, IsRefusal};
@@ -12,16 +16,16 @@ ghost use Rattle.arch_types.specs.declared.block.PbType.{PbType};
 
 use crate::copy::copy_block;
 use crate::edges::edges_of;
-use crate::ends::ends_of;
+use crate::ends::{edges_before, edges_by_end, edges_by_source};
 use crate::faults::check_tree;
-use crate::number::End;
 use crate::places::places_of;
+use crate::shape::{Shape, shapes_of};
 use crate::{Edge, EdgeIx, ExpandError, PbIx, PbKind, PinAt, PinIx, Step};
-use arch_types::{Arch, AtomKind, Kind, Mode, PbType, Port};
+use arch_types::{Arch, Inter, Kind, Mode, PbType, Port};
+use flat_tables::FlatTable;
 use indexmap::IndexSet;
-use sqlite_items::Items;
+use mode_edges::LocalPin;
 use std::alloc::Global;
-use std::collections::HashMap;
 use std::marker::Model;
 
 /// A block type with its instances, pins and edges by number. Instances are numbered in preorder,
@@ -35,9 +39,13 @@ pub struct PbGraph {
     rows: IndexSet<Step>,
     pins: IndexSet<PinAt>,
     edges: Vec<Edge>,
-    into: HashMap<End, Items<EdgeIx>>,
+    /// The edges into each pin.
+    into: FlatTable<EdgeIx>,
+    /// The edges out of each pin.
+    out_of: FlatTable<EdgeIx>,
     /// For each instance the first one of its pb_type.
     firsts: Vec<PbIx>,
+    shapes: Vec<Shape>,
 }
 
 impl Model for PbGraph {
@@ -60,6 +68,21 @@ impl PbGraph {
     /// What is known of every graph.
     pub fn law(&self)
         ensures { IsExpansion self.now }
+    {
+        let _ = &self.block;
+    }
+
+    /// What every graph keeps besides, for callers' proofs. It does nothing.
+    pub fn keeps(&self)
+        ensures { IsKept self.now }
+    {
+        let _ = &self.block;
+    }
+
+    /// What `edges_into` lists, for callers' proofs: exactly the edges with that end in that mode,
+    /// ascending. It does nothing.
+    pub fn lists_ends(&self)
+        ensures { ListsEnds self.now }
     {
         let _ = &self.block;
     }
@@ -172,12 +195,47 @@ impl PbGraph {
         (owner, mode)
     }
 
+    /// The edges into a pin, in the modes of their owner in turn.
+    pub fn edges_into_pin(&self, pin: PinIx) -> &[EdgeIx]
+        requires { pin.0 < length self.now.pins }
+        ensures { AreEdgesWith self.now (λ e. e.dst.0 ≡ pin.0) result.now }
+    {
+        self.into.group(pin.0)
+    }
+
+    /// The edges out of a pin.
+    pub fn edges_out_of(&self, pin: PinIx) -> &[EdgeIx]
+        requires { pin.0 < length self.now.pins }
+        ensures { AreEdgesWith self.now (λ e. e.src.0 ≡ pin.0) result.now }
+    {
+        self.out_of.group(pin.0)
+    }
+
     /// The edges into a pin in one mode of their owner, in the order of all edges.
     pub fn edges_into(&self, pin: PinIx, mode: u32) -> &[EdgeIx]
         requires { pin.0 < length self.now.pins }
         ensures { result.now ≡ into_from 0 self.now.edges pin.0 mode }
     {
-        edges_at(&self.into, End { pin, mode })
+        let group = self.into.group(pin.0);
+        let start = edges_before(self.edges.as_slice(), group, mode as u64);
+        let end = edges_before(self.edges.as_slice(), group, mode as u64 + 1);
+        &group[start..end]
+    }
+
+    /// The number of a pin of a mode of an instance, as the pin words of the mode name it.
+    pub fn pin_of_local(&self, owner: PbIx, mode: u32, pin: LocalPin) -> Option<PinIx>
+        requires { owner.0 < length self.now.instances }
+        ensures { MatchOption result ((n : ℕ) → IsLocalPin self.now owner.0 mode pin n → ⊥) (λ n. IsLocalPin self.now owner.0 mode pin n.0) }
+    {
+        self.law();
+        self.keeps();
+        match pin.owner {
+            None => self.pin_of(owner, pin.port, pin.bit),
+            Some(child) => {
+                let pb = self.child_of(owner, mode, child.child, child.instance)?;
+                self.pin_of(pb, pin.port, pin.bit)
+            }
+        }
     }
 
     /// The pb_type of an instance.
@@ -192,12 +250,11 @@ impl PbGraph {
         }
     }
 
-    /// An instance of the same pb_type: the first of them, for all instances of the pb_type. What
-    /// isn't said of it, but meant, is that it is the first; whoever keeps something per pb_type
-    /// keeps it there.
+    /// The first instance of the same pb_type, which stands for all of them: whoever keeps something
+    /// per pb_type keeps it there.
     pub fn first_like(&self, pb: PbIx) -> PbIx
         requires { pb.0 < length self.now.instances }
-        ensures before { result.0 ≤ pb.0 }
+        ensures first { IfSome (slice_get self.now.instances pb.0) (λ a. slice_get self.now.instances result.0 ≡ Some (first_address a)) }
         ensures same { block_at self.now result.0 ≡ block_at self.now pb.0 }
     {
         self.firsts[pb.0 as usize]
@@ -208,14 +265,46 @@ impl PbGraph {
         requires { pb.0 < length self.now.instances }
         ensures { option_map (λ block. kind_of block.kind) (block_at self.now pb.0) ≡ Some result }
     {
-        match &self.block_of(pb).kind {
-            Kind::InPad => PbKind::Leaf(AtomKind::InPad),
-            Kind::OutPad => PbKind::Leaf(AtomKind::OutPad),
-            Kind::Lut => PbKind::Leaf(AtomKind::Lut),
-            Kind::Latch => PbKind::Leaf(AtomKind::Latch),
-            Kind::Cell(model) => PbKind::Leaf(AtomKind::Cell(*model)),
-            Kind::Modes(modes) => PbKind::Modes(modes.len() as u32),
-        }
+        self.shapes[pb.0 as usize].kind
+    }
+
+    /// How many ports an instance has.
+    pub fn port_count(&self, pb: PbIx) -> u32
+        requires { pb.0 < length self.now.instances }
+        ensures { result ≡ length (ports_of self.now pb.0) }
+    {
+        self.shapes[pb.0 as usize].ports
+    }
+
+    /// How many pins an instance has.
+    pub fn pin_count(&self, pb: PbIx) -> u32
+        requires { pb.0 < length self.now.instances }
+        ensures { result ≡ length (pins_of_ports pb.0 0 (ports_of self.now pb.0)) }
+    {
+        self.shapes[pb.0 as usize].pins
+    }
+
+    /// Where the pins of an instance begin: they stand together, port by port.
+    pub fn first_pin(&self, pb: PbIx) -> PinIx
+        requires { pb.0 < length self.now.instances }
+        ensures { HasPinsFrom self.now pb.0 result.0 }
+    {
+        self.shapes[pb.0 as usize].first_pin
+    }
+
+    /// The interconnect that gives an edge.
+    pub fn inter_of(&self, edge: EdgeIx) -> &Inter
+        requires { edge.0 < length self.now.edges }
+        ensures { IfSome (slice_get self.now.edges edge.0) (λ e. inter_of self.now e ≡ Some result.now) }
+    {
+        self.law();
+        let Edge {
+            owner,
+            mode,
+            inter,
+            ..
+        } = self.edge(edge);
+        inter_at(self.block_of(owner), mode, inter)
     }
 
     /// The ports of an instance.
@@ -273,8 +362,10 @@ pub fn graph_of(alloc: Global, root: &PbType, block: u32) -> Result<PbGraph, Exp
     check_tree(alloc, &copy)?;
     let places = places_of(alloc, &copy)?;
     let edges = edges_of(alloc, &places)?;
-    let into = ends_of(alloc, edges.as_slice())?;
-    let (rows, pins, firsts) = places.into_parts();
+    let count = places.pins.len() as u32;
+    let into = edges_by_end(alloc, edges.as_slice(), count)?;
+    let out_of = edges_by_source(alloc, edges.as_slice(), count)?;
+    let (rows, pins, firsts, shapes) = places.into_parts();
     Ok(PbGraph {
         block,
         root: copy,
@@ -282,7 +373,9 @@ pub fn graph_of(alloc: Global, root: &PbType, block: u32) -> Result<PbGraph, Exp
         pins,
         edges,
         into,
+        out_of,
         firsts,
+        shapes,
     })
 }
 
@@ -300,16 +393,6 @@ pub(crate) fn place_of_pin(pins: &IndexSet<PinAt>, pin: PinAt) -> Option<usize>
     pins.get_index_of(&pin)
 }
 
-/// What the table holds for an end; nothing where it has no entry.
-fn edges_at(into: &HashMap<End, Items<EdgeIx>>, end: End) -> &[EdgeIx]
-    ensures { result.now ≡ listed into.now end.pin.0 end.mode }
-{
-    match into.get(&end) {
-        Some(edges) => edges.as_slice(),
-        None => &[],
-    }
-}
-
 /// The child of a block to which a step leads.
 pub(crate) fn child_below(block: &PbType, step: Step) -> &PbType
     requires { IsSome (child_at block.now (hop_of step)) }
@@ -322,6 +405,15 @@ pub(crate) fn child_below(block: &PbType, step: Step) -> &PbType
             &mode.kids.as_slice()[step.child as usize]
         }
     }
+}
+
+/// An interconnect of a mode of a block.
+fn inter_at(block: &PbType, mode: u32, inter: u32) -> &Inter
+    requires { IsSome (option_and_then (λ m. slice_get (inters_of m) inter) (slice_get (modes_of block.now.kind) mode)) }
+    ensures { option_and_then (λ m. slice_get (inters_of m) inter) (slice_get (modes_of block.now.kind) mode) ≡ Some result.now }
+{
+    let mode: &Mode = &modes_in(block)[mode as usize];
+    &mode.inters.as_slice()[inter as usize]
 }
 
 /// The modes of a pb_type; a leaf has none.

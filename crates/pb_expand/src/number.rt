@@ -47,10 +47,3 @@ pub enum PbKind {
     Leaf(AtomKind),
     Modes(u32),
 }
-
-/// Where edges lead: into a pin, in one mode of their owner.
-#[derive(Clone, Copy, Debug, PartialEq, Eq, Hash)]
-pub(crate) struct End {
-    pub pin: PinIx,
-    pub mode: u32,
-}

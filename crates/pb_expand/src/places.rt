@@ -3,15 +3,20 @@ ghost use Rattle.vtr_base.specs.Lists.{up_from};
 ghost use Rattle.arch_types.specs.Address.{instances_of};
 ghost use Rattle.pb_expand.specs.Graph.{pin_at, pins_of_ports, pins_of};
 ghost use Rattle.pb_expand.specs.Rows.{addresses, IsTree};
-ghost use Rattle.pb_expand.specs.Making.{AreBlocks, AreShort, AreChildren, StandFor, IsLike, pins_over};
+ghost use Rattle.arch_types.specs.Numbering.{IsNumbering};
+ghost use Rattle.pb_expand.specs.Making.{AreBlocks, AreShort, AreFirsts, pins_over};
+ghost use Rattle.pb_expand.specs.Shapes.{AreShapes};
 ghost use Rattle.pb_expand.specs.declared.error.SizeError.{SizeError};
 
+use crate::edges::owner_of;
 use crate::error::SizeError;
-use crate::graph::{child_below, modes_in, place_of_step};
+use crate::graph::{child_below, modes_in};
 use crate::rows::{push_below, short};
+use crate::shape::{Shape, shapes_of};
 use crate::{PbIx, PinAt, Step};
 use arch_types::{PbType, Port};
 use indexmap::IndexSet;
+use mode_edges::ChildAt;
 use std::alloc::{AllocError, Global};
 use std::hash::Hash;
 
@@ -23,23 +28,25 @@ pub(crate) struct Places<'a> {
     pub blocks: Vec<&'a PbType>,
     /// For each instance one of the same pb_type: the first of them, which stands for itself.
     pub firsts: Vec<PbIx>,
+    pub shapes: Vec<Shape>,
     pub rows: IndexSet<Step>,
     pub pins: IndexSet<PinAt>,
 }
 
 impl Places<'_> {
-    /// The instances, the pins and the first instances, without the pb_types that they were made
-    /// from.
-    pub fn into_parts(self) -> (IndexSet<Step>, IndexSet<PinAt>, Vec<PbIx>)
-        ensures { result ≡ (self.entry.rows, self.entry.pins, self.entry.firsts) }
+    /// The instances, the pins, the first instances and the shapes, without the pb_types that they
+    /// were made from.
+    pub fn into_parts(self) -> (IndexSet<Step>, IndexSet<PinAt>, Vec<PbIx>, Vec<Shape>)
+        ensures { result ≡ (self.entry.rows, self.entry.pins, self.entry.firsts, self.entry.shapes) }
     {
         let Places {
             blocks: _,
             firsts,
+            shapes,
             rows,
             pins,
         } = self;
-        (rows, pins, firsts)
+        (rows, pins, firsts, shapes)
     }
 }
 
@@ -49,8 +56,8 @@ pub(crate) fn places_of(alloc: Global, root: &PbType) -> Result<Places<'_>, Size
     ensures instances { IfOk result (λ p. addresses p.rows.keys ≡ instances_of root.now) }
     ensures blocks { IfOk result (λ p. AreBlocks root.now (instances_of root.now) (map (λ b. b.now) p.blocks.items)) }
     ensures short { IfOk result (λ p. AreShort (map (λ b. b.now) p.blocks.items)) }
-    ensures firsts { IfOk result (λ p. StandFor (map (λ b. b.now) p.blocks.items) p.firsts.items) }
-    ensures all_firsts { IfOk result (λ p. length p.firsts.items ≡ length p.blocks.items) }
+    ensures firsts { IfOk result (λ p. AreFirsts (instances_of root.now) p.firsts.items) }
+    ensures shapes { IfOk result (λ p. AreShapes (map (λ b. b.now) p.blocks.items) p.shapes.items) }
     ensures pins { IfOk result (λ p. p.pins.keys ≡ pins_of root.now) }
     ensures few_rows { IfOk result (λ p. length p.rows.keys ≤ 1048575) }
     ensures few_pins { IfOk result (λ p. length p.pins.keys ≤ 1048576) }
@@ -62,10 +69,12 @@ pub(crate) fn places_of(alloc: Global, root: &PbType) -> Result<Places<'_>, Size
     let pins = pins_of_blocks(alloc, blocks.as_slice())?;
     root.numbering();
     let row_set = set_of(alloc, rows.as_slice())?;
-    let firsts = firsts_of(alloc, blocks.as_slice(), &row_set)?;
+    let firsts = firsts_of(alloc, root, &row_set)?;
+    let shapes = shapes_of(alloc, blocks.as_slice())?;
     Ok(Places {
         blocks,
         firsts,
+        shapes,
         rows: row_set,
         pins: set_of(alloc, pins.as_slice())?,
     })
@@ -91,59 +100,37 @@ fn blocks_of<'a>(
     Ok(blocks)
 }
 
-/// Adds a pb_type whose modes can be numbered.
+/// Adds a pb_type whose modes and ports can be numbered.
 fn push_block<'a>(blocks: &mut Vec<&'a PbType>, block: &'a PbType) -> Result<(), AllocError>
     requires { AreShort (map (λ b. b.now) blocks.old.items) }
     ensures added { OnOk result (map (λ b. b.now) blocks.new.items ≡ map (λ b. b.now) blocks.old.items ++ block.now ∷ []) }
     ensures short { OnOk result (AreShort (map (λ b. b.now) blocks.new.items)) }
 {
     let _ = short(modes_in(block))?;
+    let _ = short(block.ports.as_slice())?;
     blocks.push(block)?;
     Ok(())
 }
 
-/// For each instance the first one of its pb_type.
-fn firsts_of(
-    alloc: Global,
-    blocks: &[&PbType],
-    rows: &IndexSet<Step>,
-) -> Result<Vec<PbIx>, AllocError>
+/// For each instance the first one of its pb_type: its parent's first one has the same child as
+/// instance 0.
+fn firsts_of(alloc: Global, root: &PbType, rows: &IndexSet<Step>) -> Result<Vec<PbIx>, AllocError>
     requires tree { IsTree rows.now.keys }
     requires few { length rows.now.keys ≤ 1048575 }
-    requires all { length blocks.now ≡ 1 + length rows.now.keys }
-    requires children { AreChildren rows.now.keys (map (λ b. b.now) blocks.now) }
-    ensures firsts { IfOk result (λ fs. StandFor (map (λ b. b.now) blocks.now) fs.items) }
-    ensures all { IfOk result (λ fs. length fs.items ≡ length blocks.now) }
+    requires numbering { IsNumbering root.now (addresses rows.now.keys) }
+    ensures { IfOk result (λ fs. AreFirsts (addresses rows.now.keys) fs.items) }
 {
-    let mut firsts = Vec::with_capacity(alloc, blocks.len())?;
+    let mut firsts = Vec::with_capacity(alloc, rows.len() + 1)?;
     firsts.push(PbIx(0))?;
     for row in rows.as_slice() {
-        let first = first_like(rows, firsts.as_slice(), *row);
-        firsts.push(first)?;
+        let parent = firsts[row.parent.0 as usize];
+        let child = ChildAt {
+            child: row.child,
+            instance: 0,
+        };
+        firsts.push(owner_of(rows, parent, row.mode, Some(child)))?;
     }
     Ok(firsts)
-}
-
-/// The first instance of the pb_type of the next row, where the instances before it have these:
-/// its parent's first one has the same child as instance 0, unless that is the next row itself.
-fn first_like(rows: &IndexSet<Step>, firsts: &[PbIx], row: Step) -> PbIx
-    requires there { row.parent.0 < length firsts.now }
-    requires few { length firsts.now ≤ 1048576 }
-    ensures { (result.0 ≡ length firsts.now) ⊎ IsLike rows.now.keys firsts.now row result }
-{
-    let like = Step {
-        parent: firsts[row.parent.0 as usize],
-        mode: row.mode,
-        child: row.child,
-        instance: 0,
-    };
-    let Some(found) = place_of_step(rows, like) else {
-        return PbIx(firsts.len() as u32);
-    };
-    if found >= firsts.len() - 1 {
-        return PbIx(firsts.len() as u32);
-    }
-    firsts[found + 1]
 }
 
 /// The pins of all instances.

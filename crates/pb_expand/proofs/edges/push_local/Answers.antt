@@ -3,7 +3,7 @@ use Rattle.mode_edges.specs.declared.pin.LocalEdge.{LocalEdge}
 use Rattle.pb_expand.specs.Rows.{addresses}
 use Rattle.pb_expand.specs.Making.{IsPlaced, edge_at}
 use Rattle.std.proofs.lemmas.Option.{slice_get-get_or}
-use Rattle.pb_expand.proofs.EndLemmas.{read_itself}
+use Rattle.pb_expand.proofs.Lists.{read_itself}
 use Rattle.pb_expand.proofs.EdgeList.{adds_push}
 use Rattle.pb_expand.proofs.edges.push_local.Goals as goal
 

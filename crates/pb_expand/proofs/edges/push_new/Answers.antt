@@ -1,7 +1,9 @@
-use Rattle.std.proofs.Common.{◌≡◌, ◌+◌, ◌<◌, Some, Err, map, length, refl, sym, ap, ◌∙◌, subst, arith, slice_get}
+use Rattle.std.proofs.Common.{◌≡◌, ◌+◌, ◌-◌, ◌<◌, Some, Err, map, length, refl, sym, ap, ◌∙◌, subst, arith, slice_get}
 use Rattle.std.proofs.lemmas.Option.{slice_get_read, slice_get_within}
 use Rattle.arch_types.specs.declared.block.PbType.{PbType}
 use Rattle.arch_types.specs.Tree.{modes_of}
+use Rattle.mode_edges.specs.Edges.{AreEdges, HasMoreEdges}
+use Rattle.mode_edges.specs.Faults.{IsSound}
 use Rattle.pb_expand.specs.declared.error.SizeError.TheVariants as size
 use Rattle.pb_expand.specs.Rows.{addresses}
 use Rattle.pb_expand.specs.Making.{AddsPlaced, HavePlaces, AreModeEdges}
@@ -20,7 +22,8 @@ local_edges-requires c =
     let read = slice_get_read modes (length modes) c.loop-mode.mode c.is-item.result refl c.loop-mode-test.true c.is-item.is in
     let is_mode : slice_get (modes_of c.index-block.result.now.now.kind) c.loop-mode.mode ≡ Some c.is-item.result =
     ap (λ ms. slice_get ms c.loop-mode.mode) (sym c.modes_in-is-items.ensures) ∙ read in
-    c.requires.parts.sound c.args.owner.0 c.loop-mode.mode c.index-block.result.now.now c.is-item.result here is_mode
+    subst (λ (b : PbType). IsSound b c.is-item.result) (sym c.in_ok-ports.ensures)
+    (c.requires.parts.sound c.args.owner.0 c.loop-mode.mode c.index-block.result.now.now c.is-item.result here is_mode)
 
 pub returns-in_err-local-clause-many : goal.returns-in_err-local-clause-many
 returns-in_err-local-clause-many c = λ told.
@@ -29,7 +32,8 @@ returns-in_err-local-clause-many c = λ told.
     let read = slice_get_read modes (length modes) c.loop-mode.mode c.is-item.result refl c.loop-mode-test.true c.is-item.is in
     let is_mode : slice_get (modes_of c.index-block.result.now.now.kind) c.loop-mode.mode ≡ Some c.is-item.result =
     ap (λ ms. slice_get ms c.loop-mode.mode) (sym c.modes_in-is-items.ensures) ∙ read in
-    let more = c.in_err-local.ensures.many (ap Err (passed_on _ c.in_err-local.field-0.0 size.TooMany c.from_residual.ensures.1 told)) in
+    let more = subst (λ (b : PbType). HasMoreEdges b c.is-item.result (4194304 - c.len.result)) c.in_ok-ports.ensures
+    (c.in_err-local.ensures.many (ap Err (passed_on _ c.in_err-local.field-0.0 size.TooMany c.from_residual-in_err-local.ensures.1 told))) in
     let few = c.loop-mode.invariant.1 in
     let excess : 4194304 < length c.loop-mode.edges.items + length more.edges = omega (arith, more.more, c.len.ensures, c.loop-mode.edges.ok) in
     too_many (map (λ b. b.now) c.args.places.now.blocks.items) c.args.places.now.rows.keys c.args.places.now.pins.keys c.args.owner.0 c.loop-mode.mode
@@ -38,7 +42,7 @@ returns-in_err-local-clause-many c = λ told.
 pub overflow_cast-number : goal.overflow_cast-number
 overflow_cast-number c =
     let here = now_at c.args.places.now.blocks.items c.args.owner.0 c.index-block.result.now (omega (arith, c.requires.there)) c.index-block.ensures in
-    omega (arith, c.requires.parts.short.each c.args.owner.0 c.index-block.result.now.now here, ap length c.modes_in-is-items.ensures, c.loop-mode-test.true)
+    omega (arith, (c.requires.parts.short.each c.args.owner.0 c.index-block.result.now.now here).0, ap length c.modes_in-is-items.ensures, c.loop-mode-test.true)
 
 pub push_local-requires-clause-places : goal.push_local-requires-clause-places
 push_local-requires-clause-places c =
@@ -48,7 +52,7 @@ push_local-requires-clause-places c =
     let is_mode : slice_get (modes_of c.index-block.result.now.now.kind) c.loop-mode.mode ≡ Some c.is-item.result =
     ap (λ ms. slice_get ms c.loop-mode.mode) (sym c.modes_in-is-items.ensures) ∙ read in
     subst (λ l. HavePlaces c.args.places.now.rows.keys c.args.places.now.pins.keys c.args.owner.0 c.loop-mode.mode l) (sym c.as_slice.ensures.value)
-    (c.requires.parts.places c.args.owner.0 c.loop-mode.mode c.index-block.result.now.now c.is-item.result c.in_ok-local.local.items here is_mode c.in_ok-local.ensures.edges)
+    (c.requires.parts.places c.args.owner.0 c.loop-mode.mode c.index-block.result.now.now c.is-item.result c.in_ok-local.local.items here is_mode (subst (λ (b : PbType). AreEdges b c.is-item.result c.in_ok-local.local.items) c.in_ok-ports.ensures c.in_ok-local.ensures.edges))
 
 pub loop-mode-preserved : goal.loop-mode-preserved
 loop-mode-preserved c =
@@ -66,10 +70,14 @@ loop-mode-preserved c =
     let longer = adds_length instances pins c.args.owner.0 c.loop-mode.mode c.in_ok-local.local.items c.loop-mode.edges.items c.push_local.new.edges.items adds in (
       batch blocks instances pins c.args.owner.0 c.loop-mode.mode c.index-block.result.now.now address.0 c.is-item.result c.in_ok-local.local.items
           c.loop-mode.edges.items c.push_local.new.edges.items c.requires.parts.numbered.once_instances c.requires.parts.numbered.once_pins here address.1 is_mode
-          c.in_ok-local.ensures.edges adds c.loop-mode.invariant.0,
+          (subst (λ (b : PbType). AreEdges b c.is-item.result c.in_ok-local.local.items) c.in_ok-ports.ensures c.in_ok-local.ensures.edges) adds c.loop-mode.invariant.0,
       omega (arith, longer, c.in_ok-local.ensures.few, c.len.ensures, c.loop-mode.edges.ok),
-      kept_more c.index-block.result.now.now c.loop-mode.mode c.loop-mode.kept.items c.keep.new.kept.items c.is-item.result c.in_ok-local.local
-          c.loop-mode.invariant.2 is_mode c.in_ok-local.ensures.edges c.in_ok-keep.ensures,
+      λ b at_b.
+          let same : c.index-block.result.now.now ≡ b = cc (here, at_b) in
+          subst (λ (x : PbType). AreModeEdges x (c.loop-mode.mode + 1) c.keep.new.kept.items) same
+          (kept_more c.index-block.result.now.now c.loop-mode.mode c.loop-mode.kept.items c.keep.new.kept.items c.is-item.result c.in_ok-local.local
+          (c.loop-mode.invariant.2 c.index-block.result.now.now here) is_mode
+          (subst (λ (x : PbType). AreEdges x c.is-item.result c.in_ok-local.local.items) c.in_ok-ports.ensures c.in_ok-local.ensures.edges) c.in_ok-keep.ensures),
     )
 
 pub returns-clause-edges : goal.returns-clause-edges
@@ -85,5 +93,5 @@ returns-clause-made c = λ b at_b.
     let same : c.index-block.result.now.now ≡ b = cc (here, at_b) in
     let done : c.loop-mode.mode ≡ length (modes_of c.index-block.result.now.now.kind) =
     omega (arith, c.loop-mode-test.false, c.loop-mode.auto.mode-end, ap length c.modes_in-is-items.ensures) in
-    subst (λ (x : PbType). AreModeEdges x (length (modes_of x.kind)) c.loop-mode.kept.items) same
-    (subst (λ k. AreModeEdges c.index-block.result.now.now k c.loop-mode.kept.items) done c.loop-mode.invariant.2)
+    subst (λ (x : PbType). AreModeEdges b (length (modes_of x.kind)) c.loop-mode.kept.items) same
+    (subst (λ k. AreModeEdges b k c.loop-mode.kept.items) done (c.loop-mode.invariant.2 b at_b))

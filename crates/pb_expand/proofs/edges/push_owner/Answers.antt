@@ -13,8 +13,7 @@ push_known-requires-clause-kept c =
     let lists = c.args.lists.now in
     let made = c.index-lists-first.result in
     let at_n = slice_get_read firsts (length firsts) c.args.owner.0 first refl (omega (arith, c.requires.there, c.requires.all_firsts)) c.index-first.ensures in
-    let low = c.requires.firsts.before c.args.owner.0 first at_n in
-    let inside : first.0 < length lists = omega (arith, low, c.if-first-owner.false, c.requires.all_lists) in
+    let inside : first.0 < length lists = omega (arith, c.if-first-owner.false, c.requires.all_lists) in
     let at_f = slice_get_read lists (length lists) first.0 made refl inside c.index-lists-first.is in
     subst (λ l. AreModeEdgesOf blocks c.args.owner.0 l) (sym c.as_slice.ensures.value)
     (known_at blocks firsts lists c.args.owner.0 first made c.requires.firsts c.requires.lists at_n at_f)

@@ -1,13 +1,15 @@
-use Rattle.std.proofs.Common.{◌≡◌, ◌+◌, ◌<◌, ◌≤◌, ◌++◌, [], Some, Err, map, length, get_or, slice_get, refl, sym, ap, ◌∙◌, subst, inr, arith}
+use Rattle.std.proofs.Common.{◌≡◌, ◌<◌, ◌≤◌, ◌++◌, [], Some, Err, map, length, get_or, slice_get, refl, sym, ap, ◌∙◌, subst, inr, arith}
 use Rattle.std.proofs.lemmas.List.{length-map}
 use Rattle.arch_types.specs.Address.{instances_of, below}
+use Rattle.arch_types.specs.Numbering.{IsNumbering}
+use Rattle.arch_types.proofs.Numbered.{is_numbering}
 use Rattle.pb_expand.specs.declared.error.SizeError.TheVariants as size
 use Rattle.pb_expand.specs.Graph.{pins_of}
-use Rattle.pb_expand.specs.Making.{AreBlocks, AreChildren, pins_over}
+use Rattle.pb_expand.specs.Making.{AreFirsts, pins_over}
+use Rattle.pb_expand.specs.Shapes.{AreShapes}
 use Rattle.pb_expand.specs.Rows.{addresses}
 use Rattle.pb_expand.proofs.RowLemmas.{one_step}
 use Rattle.pb_expand.proofs.Insides.{one_pin}
-use Rattle.pb_expand.proofs.BlockList.{are_children}
 use Rattle.pb_expand.proofs.Told.{passed_on}
 use Rattle.pb_expand.proofs.Numbers.{instances_once, rows_once, pins_are_of, pins_of_once, few_blocks}
 use Rattle.pb_expand.proofs.places.places_of.Goals as goal
@@ -45,27 +47,32 @@ set_of-requires c =
     let y_at : slice_get rows j ≡ Some y = subst (λ l. slice_get l j ≡ Some y) c.as_slice-3.ensures.value at_j in
     rows_once rows c.in_ok-push_below.ensures.tree (instances_once c.args.root.now rows instances) i j x x_at (y_at ∙ ap Some (one_step x y same))
 
-pub firsts_of-requires-clause-all : goal.firsts_of-requires-clause-all
-firsts_of-requires-clause-all c =
+pub firsts_of-requires-clause-numbering : goal.firsts_of-requires-clause-numbering
+firsts_of-requires-clause-numbering c =
     let rows = c.push_below.new.rows.items in
     let instances : addresses rows ≡ instances_of c.args.root.now =
     c.in_ok-push_below.ensures.added ∙ ap (λ rs. addresses rs ++ below c.args.root.now.kind (get_or (addresses rs) 0 [])) c.new-rows.ensures.items in
     let keys = c.in_ok-row_set.ensures ∙ c.as_slice-3.ensures.value in
-    ap length c.as_slice-4.ensures.value ∙ sym (length-map c.in_ok-blocks.blocks.items (λ b. b.now))
-    ∙ few_blocks c.args.root.now rows (map (λ b. b.now) c.in_ok-blocks.blocks.items) instances c.in_ok-blocks.ensures.blocks ∙ ap (λ l. 1 + length l) (sym keys)
+    subst (λ l. IsNumbering c.args.root.now l) (sym (ap addresses keys ∙ instances)) (is_numbering c.args.root.now)
 
-pub firsts_of-requires-clause-children : goal.firsts_of-requires-clause-children
-firsts_of-requires-clause-children c =
-    let root = c.args.root.now in
+pub shapes_of-requires-clause-short : goal.shapes_of-requires-clause-short
+shapes_of-requires-clause-short c = rw c.as_slice-4.ensures.value c.in_ok-blocks.ensures.short
+
+pub shapes_of-requires-clause-few : goal.shapes_of-requires-clause-few
+shapes_of-requires-clause-few c =
+    rw c.as_slice-4.ensures.value
+    (omega (arith, c.in_ok-pins.ensures.few, ap length (c.in_ok-pins.ensures.pins ∙ ap (λ bs. pins_over 0 (map (λ b. b.now) bs)) c.as_slice-2.ensures.value)))
+
+pub returns-clause-firsts : goal.returns-clause-firsts
+returns-clause-firsts c =
     let rows = c.push_below.new.rows.items in
-    let blocks = map (λ b. b.now) c.in_ok-blocks.blocks.items in
-    let instances : addresses rows ≡ instances_of root =
-    c.in_ok-push_below.ensures.added ∙ ap (λ rs. addresses rs ++ below root.kind (get_or (addresses rs) 0 [])) c.new-rows.ensures.items in
-    let are = subst (λ l. AreBlocks root l blocks) (sym instances) c.in_ok-blocks.ensures.blocks in
-    let children = are_children root rows blocks c.in_ok-push_below.ensures.tree are in
+    let instances : addresses rows ≡ instances_of c.args.root.now =
+    c.in_ok-push_below.ensures.added ∙ ap (λ rs. addresses rs ++ below c.args.root.now.kind (get_or (addresses rs) 0 [])) c.new-rows.ensures.items in
     let keys = c.in_ok-row_set.ensures ∙ c.as_slice-3.ensures.value in
-    subst (λ bs. AreChildren c.in_ok-row_set.row_set.keys (map (λ b. b.now) bs)) (sym c.as_slice-4.ensures.value)
-    (subst (λ rs. AreChildren rs blocks) (sym keys) children)
+    subst (λ l. AreFirsts l c.in_ok-firsts.firsts.items) (ap addresses keys ∙ instances) c.in_ok-firsts.ensures
+
+pub returns-clause-shapes : goal.returns-clause-shapes
+returns-clause-shapes c = subst (λ bs. AreShapes (map (λ b. b.now) bs) c.in_ok-shapes.shapes.items) c.as_slice-4.ensures.value c.in_ok-shapes.ensures
 
 pub set_of-requires-2 : goal.set_of-requires-2
 set_of-requires-2 c =

@@ -15,8 +15,8 @@ pub returns-in-Some : goal.returns-in-Some
 returns-in-Some t c =
     let is : block_at c.args.self.now c.args.pb.0 ≡ Some c.child_below.result.now =
     block_below c.args.self.now c.in-Some.step c.args.pb.0 c.block_of.result.now c.in-Some.ensures.step c.block_of.ensures.is ∙ c.child_below.ensures in
-    record { is = is; short = c.self.invariant.short c.args.pb.0 c.child_below.result.now (subst (λ (g : Graph). block_at g c.args.pb.0 ≡ Some c.child_below.result.now) (sym c.self.view_is) is) }
+    record { is = is; short = (c.self.invariant.short c.args.pb.0 c.child_below.result.now (subst (λ (g : Graph). block_at g c.args.pb.0 ≡ Some c.child_below.result.now) (sym c.self.view_is) is)).0 }
 
 pub returns-in-None-clause-short : goal.returns-in-None-clause-short
 returns-in-None-clause-short t c =
-    c.self.invariant.short 0 c.self.inside.root (root_block (graph_of c.self.inside) (root_first c.self.inside.rows.keys))
+    (c.self.invariant.short 0 c.self.inside.root (root_block (graph_of c.self.inside) (root_first c.self.inside.rows.keys))).0

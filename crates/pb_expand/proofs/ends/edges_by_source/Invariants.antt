@@ -1,0 +1,6 @@
+use Rattle.std.proofs.Common.{◌≡◌, take}
+use Rattle.pb_expand.specs.Ends.{pairs_from}
+use Rattle.pb_expand.proofs.ends.edges_by_source.Given as goal
+
+abbrev pub invariant-loop-number : goal.invariant-loop-number
+invariant-loop-number l = l.pairs.items ≡ pairs_from (λ e. e.src.0) 0 (take l.number l.edges)
