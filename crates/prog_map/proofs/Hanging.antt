@@ -1,5 +1,5 @@
 -- Which instances hang on a mode of an instance.
-use Rattle.std.proofs.Common.{◌≡◌, ◌==◌, ◌&&◌, ℕ, Bool, true, false, [], ◌∷◌, ◌++◌, Option, Some, None, refl, sym, ap, ◌∙◌, arith}
+use Rattle.std.proofs.Common.{◌≡◌, ◌==◌, ◌&&◌, ℕ, Bool, true, false, [], ◌∷◌, ◌++◌, Option, Some, None, refl, sym, ap, ◌∙◌, arith, Result, Ok, Err, OnOk}
 use Rattle.std.specs.Prelude.{slice_get}
 use Rattle.std.specs.Option.{option_map_or}
 use Rattle.std.proofs.lemmas.Bool.Decides.{nat_tests}
@@ -113,3 +113,7 @@ root_hangs g n law first pb mode =
     none : (o : Option Address) → option_map_or (λ above. is_step above mode []) o false ≡ false
     none None = refl
     none (Some above) = nil above
+
+pub on_ok_then : {T E : Type 0} (P Q : Type 0) (r : Result T E) → (P → Q) → OnOk r P → OnOk r Q
+on_ok_then P Q (Ok x) f h = f h
+on_ok_then P Q (Err e) f h = tt

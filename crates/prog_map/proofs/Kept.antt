@@ -1,6 +1,5 @@
 -- A programming of a graph stays one when a site is set to a choice of its own.
-use Rattle.std.proofs.Common.{◌≡◌, ◌||◌, ℕ, Bool, true, false, cond, List, Some, refl, sym, ap, ◌∙◌, subst}
-use Rattle.std.specs.Prelude.{IsSome, slice_get}
+use Rattle.std.proofs.Common.{◌≡◌, ◌||◌, ℕ, Bool, true, false, cond, Some, refl, sym, ◌∙◌, subst}
 use Rattle.std.specs.declared.cmp.Ordering.{Ordering}
 use Rattle.std.specs.declared.cmp.Ordering.TheVariants.{Less, Equal, Greater}
 use Rattle.std.specs.Ordering.{nat_cmp, eq_by_cmp, is_eq}
@@ -11,9 +10,6 @@ use Rattle.std.specs.FinSet.{contains-insert}
 use Rattle.prog_map.specs.declared.choice.LutChoice.{LutChoice}
 use Rattle.prog_map.specs.Leaves.{IsLeaf}
 use Rattle.prog_map.specs.Choices.{Choices, site_cmp, mode_of, pick_of, is_used, lut_of, with_mode, with_pick, with_used, with_lut, IsModeOf, IsEdgeInto, IsLutChoice, IsProgOf}
-use Rattle.prog_map.specs.Names.{NamesMode}
-use Rattle.pb_expand.specs.declared.number.Edge.{Edge}
-use Rattle.prog_map.specs.NamedEdges.{IsNamedEdge}
 use Rattle.prog_map.proofs.Maps.{sites_total, sites_apart}
 use Rattle.prog_map.proofs.Climbs.{some_injective}
 
@@ -79,15 +75,3 @@ lut_kept g c pb choice of there = record {
         subst (λ k. IsLutChoice g k held) (sym (same_key nat_cmp nat_cmp-IsAntisymmetric q pb same))
         (subst (λ k. IsLutChoice g pb k) (some_injective is) there)
     by_test q held false other is = of.luts q held is
-
-pub named_there : (g : Graph) (pb : ℕ) (text : List ℕ) (mode : ℕ) → NamesMode g pb text mode → IsModeOf g pb mode
-named_there g pb text mode names = subst (λ o. IsSome o) (sym names.there) refl
-
-pub named_into : (g : Graph) (number pin : ℕ) (text : List ℕ) (source : ℕ) (edge : Edge) → IsNamedEdge g number pin text source →
-    slice_get g.edges number ≡ Some edge → IsEdgeInto g pin edge.mode number
-named_into g number pin text source edge is there = record {
-  edge = edge;
-  there = there;
-  ends = ap (λ e. e.dst.0) (some_injective (sym there ∙ is.named.is)) ∙ is.named.ends;
-  in_mode = refl;
-}

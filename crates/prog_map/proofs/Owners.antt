@@ -76,7 +76,7 @@ no_step g c law pin at is_at own above p back =
 
 -- the step that the choices of an instance give
 pub step_is : (g : Graph) (c : Choices) → IsProgOf g c → (owner pin mode number : ℕ) (edge : Edge) → Some mode ≡ mode_of c owner →
-    Some number ≡ pick_of c pin mode → slice_get g.edges number ≡ Some edge → edge.owner.0 ≡ owner → IsLiveAt g c owner →
+    Some number ≡ pick_of c pin mode → slice_get g.edges number ≡ Some edge → edge.owner.0 ≡ owner → IsLiveAt g (mode_of c) owner →
     StepsBackIn g c owner pin edge.src.0
 step_is g c of owner pin mode number edge chosen taken is owned live =
     let into = of.picks pin mode number (sym taken) in

@@ -1,6 +1,6 @@
 -- The first input port among ports, and the inputs of a LUT.
-use Rattle.std.proofs.Common.{◌≡◌, ◌<◌, ◌≤◌, ◌+◌, ℕ, zero, suc, List, [], ◌∷◌, length, get_or, Some, sym, ap, ◌∙◌, arith}
-use Rattle.std.specs.Prelude.{slice_get}
+use Rattle.std.proofs.Common.{◌≡◌, ◌<◌, ◌≤◌, ◌+◌, ℕ, zero, suc, Bool, true, false, List, [], ◌∷◌, length, get_or, Some, sym, ap, ◌∙◌, arith}
+use Rattle.std.specs.Prelude.{slice_get, IsTrue}
 use Rattle.std.proofs.lemmas.Option.{slice_get-get_or}
 use Rattle.arch_types.specs.declared.block.Port.{Port}
 use Rattle.arch_types.specs.declared.block.Side.TheVariants.{Input}
@@ -34,3 +34,7 @@ no_input_at_all ports count all none place at_place =
     within [] k is = cc
     within (p ∷ ps) zero is = omega arith
     within (p ∷ ps) (suc k) is = let rest = within ps k is in omega (arith, rest)
+
+pub untrue : (b : Bool) → b ≡ false → IsTrue b → ⊥
+untrue true fails holds = cc
+untrue false fails holds = cc

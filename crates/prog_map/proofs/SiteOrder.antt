@@ -13,7 +13,9 @@ use Rattle.arch_types.specs.declared.block.Kind.TheViews.{the_lemmas}
 use Rattle.arch_types.specs.declared.block.AtomKind.TheVariants.{InPad, OutPad, Lut, Latch, Cell}
 use Rattle.arch_types.specs.Tree.{modes_of}
 use Rattle.arch_types.specs.Address.{Address, Hop, at}
-use Rattle.arch_types.proofs.Once.{Once, once_append, has_left, has_right, has_either}
+use Rattle.list_laws.specs.Orders.{Once}
+use Rattle.list_laws.proofs.Members.{has_left, has_right, has_either, has_flat, from_flat, from_map, has_map, has_up}
+use Rattle.list_laws.proofs.Onces.{once_append, once_flat, once_map, once_up}
 use Rattle.pb_expand.specs.declared.number.Edge.{Edge}
 use Rattle.pb_expand.specs.declared.number.EdgeIx.{EdgeIx}
 use Rattle.pb_expand.specs.declared.number.PinIx.{PinIx}
@@ -26,81 +28,14 @@ use Rattle.prog_map.specs.declared.choice.LSite.{LSite}
 use Rattle.prog_map.specs.declared.choice.LSite.TheVariants as site
 use Rattle.prog_map.specs.Leaves.{kind_at, HasModes}
 use Rattle.prog_map.specs.Groups.{places_from}
-use Rattle.prog_map.specs.Order.{is_step, hangs, kids, starts_at, is_first, opens, first_edges, end_site, own_sites, count_of, mode_sites, sites_under, site_order, HasParent}
+use Rattle.prog_map.specs.Order.{is_step, hangs, kids, starts_at, is_first, opens, first_edges, end_site, own_sites, count_of, HasParent}
+use Rattle.prog_map.specs.Levels.{mode_sites, sites_under, level_order}
 use Rattle.prog_map.proofs.Climbs.{some_injective}
 use Rattle.prog_map.proofs.Hanging.{step_is, is_step_there, is_itself}
 use Rattle.prog_map.proofs.Places.{IsPlace, place_is, is_place}
-use Rattle.prog_map.proofs.Sound.{mode_is_there}
-use Rattle.prog_map.proofs.Written.{mode_there}
+use Rattle.prog_map.proofs.Instances.{mode_is_there, mode_there}
 
-pub has_flat : {A B : Type 0} (f : A → List B) (xs : List A) (x : A) (y : B) → Has xs x → Has (f x) y → Has (flat_map f xs) y
-has_flat f [] x y h k = absurd h
-has_flat f (z ∷ xs) x y (inl e) k = has_left (f z) (flat_map f xs) y (subst (λ w. Has (f w) y) e k)
-has_flat f (z ∷ xs) x y (inr h) k = has_right (f z) (flat_map f xs) y (has_flat f xs x y h k)
-
-pub record FromFlat {A B : Type 0} (f : A → List B) (xs : List A) (y : B) : Type 0 where
-  pub item : A
-  pub has : Has xs item
-  pub within : Has (f item) y
-
-pub from_flat : {A B : Type 0} (f : A → List B) (xs : List A) (y : B) → Has (flat_map f xs) y → FromFlat f xs y
-from_flat f [] y h = absurd h
-from_flat f (z ∷ xs) y h =
-    elim (has_either (f z) (flat_map f xs) y h) [
-      | inl here ↦ record { item = z; has = inl refl; within = here }
-      | inr later ↦ let r = from_flat f xs y later in record { item = r.item; has = inr r.has; within = r.within }
-    ]
-
-once_flat : {A B : Type 0} (f : A → List B) (xs : List A) → Once xs → ((x : A) → Has xs x → Once (f x)) →
-    ((x z : A) (y : B) → Has xs x → Has xs z → Has (f x) y → Has (f z) y → x ≡ z) → Once (flat_map f xs)
-once_flat f [] once each apart = tt
-once_flat f (x ∷ xs) once each apart =
-    once_append (f x) (flat_map f xs) (each x (inl refl))
-    (once_flat f xs once.1 (λ z h. each z (inr h)) (λ z w y h k. apart z w y (inr h) (inr k)))
-    (λ y here later.
-    let r = from_flat f xs y later in
-    once.0 (subst (λ w. Has xs w) (sym (apart x r.item y (inl refl) (inr r.has) here r.within)) r.has))
-
-pub record FromMap {A B : Type 0} (f : A → B) (xs : List A) (y : B) : Type 0 where
-  pub item : A
-  pub has : Has xs item
-  pub is : y ≡ f item
-
-pub from_map : {A B : Type 0} (f : A → B) (xs : List A) (y : B) → Has (map f xs) y → FromMap f xs y
-from_map f [] y h = absurd h
-from_map f (x ∷ xs) y (inl e) = record { item = x; has = inl refl; is = e }
-from_map f (x ∷ xs) y (inr h) = let r = from_map f xs y h in record { item = r.item; has = inr r.has; is = r.is }
-
-has_map : {A B : Type 0} (f : A → B) (xs : List A) (x : A) → Has xs x → Has (map f xs) (f x)
-has_map f [] x h = absurd h
-has_map f (z ∷ xs) x (inl e) = inl (ap f e)
-has_map f (z ∷ xs) x (inr h) = inr (has_map f xs x h)
-
-once_map : {A B : Type 0} (f : A → B) (xs : List A) → Once xs → ((x z : A) → Has xs x → Has xs z → f x ≡ f z → x ≡ z) → Once (map f xs)
-once_map f [] once one = tt
-once_map f (x ∷ xs) once one = (
-  λ h. let r = from_map f xs (f x) h in once.0 (subst (λ w. Has xs w) (sym (one x r.item (inl refl) (inr r.has) r.is)) r.has),
-  once_map f xs once.1 (λ z w h k. one z w (inr h) (inr k)),
-)
-
-up_has : (n k m : ℕ) → Has (up_from n k) m → (n ≤ m) × (m < n + k)
-up_has n zero m h = absurd h
-up_has n (suc k) m (inl e) = (omega (arith, e), omega (arith, e))
-up_has n (suc k) m (inr h) = let r = up_has (n + 1) k m h in (omega (arith, r.0), omega (arith, r.1))
-
-has_up : (n k m : ℕ) → n ≤ m → m < n + k → Has (up_from n k) m
-has_up n zero m low high = absurd (omega (arith, low, high))
-has_up n (suc k) m low high = by (n == m) refl (has_up (n + 1) k m)
-  where
-    by : (b : Bool) → (n == m) ≡ b → (n + 1 ≤ m → m < (n + 1) + k → Has (up_from (n + 1) k) m) → Has (n ∷ up_from (n + 1) k) m
-    by true e rest = let same : n ≡ m = grind (arith, nat_tests) in inl (sym same)
-    by false e rest = let other : n < m = grind (arith, nat_tests) in inr (rest (omega (arith, other)) (omega (arith, high)))
-
-once_up : (n k : ℕ) → Once (up_from n k)
-once_up n zero = tt
-once_up n (suc k) = (λ h. let r = up_has (n + 1) k n h in absurd (omega (arith, r.0)), once_up (n + 1) k)
-
-once_places : {X : Type 0} (p : ℕ → X → Bool) (n : ℕ) (xs : List X) → Once (places_from p n xs)
+pub once_places : {X : Type 0} (p : ℕ → X → Bool) (n : ℕ) (xs : List X) → Once (places_from p n xs)
 once_places p n [] = tt
 once_places p n (x ∷ xs) = by (p n x) (once_places p (n + 1) xs)
   where
@@ -154,9 +89,10 @@ pub record Opens (g : Graph) (pb mode e : ℕ) : Type 0 where
   pub there : slice_get g.edges e ≡ Some edge
   pub into : FirstInto g edge.dst.0 mode pb
   pub number : into.number ≡ e
+  pub in_mode : edge.mode ≡ mode
   pub site_is : end_site g mode e ≡ site.Pin edge.dst mode
 
-opens_is : (g : Graph) (pb mode e : ℕ) → Has (first_edges g pb mode) e → Opens g pb mode e
+pub opens_is : (g : Graph) (pb mode e : ℕ) → Has (first_edges g pb mode) e → Opens g pb mode e
 opens_is g pb mode e has =
     let p : IsPlace (opens g pb mode) 0 g.edges e = place_is (opens g pb mode) 0 g.edges e has in
     let place : p.place ≡ e = omega (arith, p.number) in
@@ -176,6 +112,7 @@ opens_is g pb mode e has =
         owned = owner;
       };
       number = refl;
+      in_mode = in_mode;
       site_is = ap (λ o. option_map_or (λ (edge : Edge). site.Pin edge.dst mode) o (site.Pin (record { 0 = 0 }) mode)) there;
     }
   where
@@ -193,7 +130,7 @@ pub record IsKid (g : Graph) (above : Address) (mode kid : ℕ) : Type 0 where
   pub in_mode : hop.mode ≡ mode
   pub there : slice_get g.instances kid ≡ Some (above ++ hop ∷ [])
 
-kid_is : (g : Graph) (pb mode kid : ℕ) (above : Address) → slice_get g.instances pb ≡ Some above → Has (kids g pb mode) kid → IsKid g above mode kid
+pub kid_is : (g : Graph) (pb mode kid : ℕ) (above : Address) → slice_get g.instances pb ≡ Some above → Has (kids g pb mode) kid → IsKid g above mode kid
 kid_is g pb mode kid above at has =
     let p : IsPlace (λ n address. hangs g pb mode address) 0 g.instances kid = place_is (λ n address. hangs g pb mode address) 0 g.instances kid has in
     let place : p.place ≡ kid = omega (arith, p.number) in
@@ -203,14 +140,14 @@ kid_is g pb mode kid above at has =
 
 module _ (g : Graph) (law : IsExpansion g) where
   -- an instance doesn't stand below itself
-  not_below : (pb : ℕ) (above : Address) (hop : Hop) (s : LSite) → slice_get g.instances pb ≡ Some above → IsOf g s pb → IsUnder g (above ++ hop ∷ []) s → ⊥
+  pub not_below : (pb : ℕ) (above : Address) (hop : Hop) (s : LSite) → slice_get g.instances pb ≡ Some above → IsOf g s pb → IsUnder g (above ++ hop ∷ []) s → ⊥
   not_below pb above hop s at of u =
       let same : pb ≡ u.number = one_owner g s pb u.number of u.of in
       let addresses : above ≡ (above ++ hop ∷ []) ++ u.hops = some_injective (sym at ∙ ap (λ k. slice_get g.instances k) same ∙ u.there) in
       let cut : [] ≡ hop ∷ u.hops = append_cancel_left above [] (hop ∷ u.hops) (append-nil above ∙ addresses ∙ append_assoc above (hop ∷ []) u.hops) in
       cc
 
-  same_hop_below : (above : Address) (h k : Hop) (s : LSite) → IsUnder g (above ++ h ∷ []) s → IsUnder g (above ++ k ∷ []) s → h ≡ k
+  pub same_hop_below : (above : Address) (h k : Hop) (s : LSite) → IsUnder g (above ++ h ∷ []) s → IsUnder g (above ++ k ∷ []) s → h ≡ k
   same_hop_below above h k s u v =
       let same : u.number ≡ v.number = one_owner g s u.number v.number u.of v.of in
       let addresses : (above ++ h ∷ []) ++ u.hops ≡ (above ++ k ∷ []) ++ v.hops =
@@ -220,7 +157,7 @@ module _ (g : Graph) (law : IsExpansion g) where
       (sym (append_assoc above (h ∷ []) u.hops) ∙ addresses ∙ append_assoc above (k ∷ []) v.hops) in
       cc
 
-  own_of : (pb : ℕ) (k : Option PbKind) (s : LSite) → Has (own_sites pb k) s → IsOf g s pb
+  pub own_of : (pb : ℕ) (k : Option PbKind) (s : LSite) → Has (own_sites pb k) s → IsOf g s pb
   own_of pb None s h = absurd h
   own_of pb (Some (kinds.Modes count)) s (inl e) = subst (λ x. IsOf g x pb) (sym e) refl
   own_of pb (Some (kinds.Modes count)) s (inr h) = absurd h
@@ -252,7 +189,7 @@ module _ (g : Graph) (law : IsExpansion g) where
   own_no_pin pb (Some (kinds.Leaf (Cell model))) pin mode (inl e) = cc
   own_no_pin pb (Some (kinds.Leaf (Cell model))) pin mode (inr h) = absurd h
 
-  own_once : (pb : ℕ) (k : Option PbKind) → Once (own_sites pb k)
+  pub own_once : (pb : ℕ) (k : Option PbKind) → Once (own_sites pb k)
   own_once pb None = tt
   own_once pb (Some (kinds.Modes count)) = (λ h. h, tt)
   own_once pb (Some (kinds.Leaf Lut)) = (λ h. used_lut h, (λ h. h, tt))
@@ -266,7 +203,7 @@ module _ (g : Graph) (law : IsExpansion g) where
   own_once pb (Some (kinds.Leaf (Cell model))) = (λ h. h, tt)
 
   -- where a site of a mode comes from, where those of the instances in it stand below them
-  in_mode : (under : ℕ → List LSite) →
+  pub in_mode : (under : ℕ → List LSite) →
       ((kid : ℕ) (address : Address) (s : LSite) → slice_get g.instances kid ≡ Some address → Has (under kid) s → IsUnder g address s) →
       (pb mode : ℕ) (above : Address) (s : LSite) → slice_get g.instances pb ≡ Some above → Has (mode_sites g under pb mode) s → InMode g pb above mode s
   in_mode under below pb mode above s at has =
@@ -282,7 +219,7 @@ module _ (g : Graph) (law : IsExpansion g) where
             inr (k.hop, k.in_mode, below f.item (above ++ k.hop ∷ []) s k.there f.within)
       ]
 
-  under_at : (levels pb : ℕ) (above : Address) (s : LSite) → slice_get g.instances pb ≡ Some above → Has (sites_under g levels pb) s → IsUnder g above s
+  pub under_at : (levels pb : ℕ) (above : Address) (s : LSite) → slice_get g.instances pb ≡ Some above → Has (sites_under g levels pb) s → IsUnder g above s
   under_at zero pb above s at has = absurd has
   under_at (suc levels) pb above s at has =
       by (λ kid address q there h. under_at levels kid address q there h)
@@ -363,11 +300,11 @@ module _ (g : Graph) (law : IsExpansion g) where
         | inr kid ↦ not_below pb above kid.0 s at (own_of pb (kind_at g pb) s own) kid.2
       ])
 
-  pub order_once : Once (site_order g)
+  pub order_once : Once (level_order g)
   order_once = once_under (length g.instances) 0 [] (ap (λ is. slice_get is 0) law.instances)
 
 -- the modes of an instance are counted
-count_is : (k : Kind) → count_of (Some (kind_of k)) ≡ length (modes_of k)
+pub count_is : (k : Kind) → count_of (Some (kind_of k)) ≡ length (modes_of k)
 unfolding out-Kind denote.Hole.Carrier.out
 count_is (Modes' n modes) = search (rules, the_lemmas)
 count_is _ = refl
@@ -456,10 +393,10 @@ root_in g law parents s (suc bound) n levels low inside in_n more enough =
     ]
 
 module _ (g : Graph) (law : IsExpansion g) (parents : (pb : ℕ) → pb < length g.instances → HasParent g pb) where
-  pub own_ordered : (n : ℕ) (s : LSite) → n < length g.instances → Has (own_sites n (kind_at g n)) s → Has (site_order g) s
+  pub own_ordered : (n : ℕ) (s : LSite) → n < length g.instances → Has (own_sites n (kind_at g n)) s → Has (level_order g) s
   own_ordered n s inside has = root_in g law parents s n n 1 (omega arith) inside (own_in g s n has) (length g.instances) (omega (arith, inside))
 
   pub pin_ordered : (pin : PinIx) (mode n : ℕ) → n < length g.instances → mode < count_of (kind_at g n) → (f : FirstInto g pin.0 mode n) → f.edge.dst ≡ pin → f.edge.mode ≡ mode →
-      Has (site_order g) (site.Pin pin mode)
+      Has (level_order g) (site.Pin pin mode)
   pin_ordered pin mode n inside counted f ends in_mode =
       root_in g law parents (site.Pin pin mode) n n 1 (omega arith) inside (pin_in g pin mode n counted f ends in_mode) (length g.instances) (omega (arith, inside))

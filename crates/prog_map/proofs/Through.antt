@@ -11,7 +11,7 @@ use Rattle.pb_expand.specs.Expansion.{IsExpansion, IsPin}
 use Rattle.pb_expand.proofs.Lists.{has_at}
 use Rattle.prog_map.specs.declared.choice.LutChoice.TheVariants.{Wire}
 use Rattle.prog_map.specs.Leaves.{AreInputs, sides_of, IsOutput}
-use Rattle.prog_map.specs.Choices.{Choices, is_used, lut_of}
+use Rattle.prog_map.specs.Choices.{Choices, is_used, lut_of, mode_of}
 use Rattle.prog_map.specs.Live.{IsLiveAt}
 use Rattle.prog_map.specs.Back.{StepsThrough, StepsByEdge, StepsBack}
 use Rattle.prog_map.proofs.Climbs.{some_injective}
@@ -29,7 +29,7 @@ one_inputs g n p w q v a b =
     some_injective (sym a.there ∙ ap (λ ps. slice_get ps p) ports ∙ ap (λ k. slice_get b.ports k) same ∙ b.there) in
     (same, a.wide ∙ ap (λ (x : Port). x.width) port ∙ sym b.wide)
 
-wire_same : (i j : ℕ) → Some (Wire i) ≡ Some (Wire j) → i ≡ j
+pub wire_same : (i j : ℕ) → Some (Wire i) ≡ Some (Wire j) → i ≡ j
 wire_same i j e = cc
 
 pub no_inputs : (g : Graph) (c : Choices) (pin : ℕ) (at : PinAt) → slice_get g.pins pin ≡ Some at → ((port width : ℕ) → AreInputs g at.pb.0 port width → ⊥) →
@@ -40,7 +40,7 @@ no_inputs g c pin at is none p s =
 
 -- the step that a LUT gives, where it has that input
 pub through_is : (g : Graph) (c : Choices) → IsExpansion g → (pin : ℕ) (at : PinAt) → slice_get g.pins pin ≡ Some at → IsOutput g at →
-    (port width input : ℕ) → AreInputs g at.pb.0 port width → lut_of c at.pb.0 ≡ Some (Wire input) → is_used c at.pb.0 ≡ true → IsLiveAt g c at.pb.0 →
+    (port width input : ℕ) → AreInputs g at.pb.0 port width → lut_of c at.pb.0 ≡ Some (Wire input) → is_used c at.pb.0 ≡ true → IsLiveAt g (mode_of c) at.pb.0 →
     (r : Option PinIx) → MatchOption r (IsPin g at.pb.0 port input → ⊥) (λ n. slice_get g.pins n.0 ≡ Some (pin_at at.pb.0 port input)) →
     MatchOption r ((p : ℕ) → StepsThrough g c pin p → ⊥) (λ p. StepsThrough g c pin p.0)
 through_is g c law pin at is output port width input inputs holds used live None none =

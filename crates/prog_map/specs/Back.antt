@@ -19,7 +19,7 @@ pub record StepsBackIn (g : Graph) (c : Choices) (owner pin source : ℕ) : Type
   pub starts : edge.src.0 ≡ source
   pub taken : pick_of c pin edge.mode ≡ Some number
   pub chosen : mode_of c owner ≡ Some edge.mode
-  pub live : IsLiveAt g c owner
+  pub live : IsLiveAt g (mode_of c) owner
 
 -- the same for the edges of any owner
 pub record StepsByEdge (g : Graph) (c : Choices) (pin source : ℕ) : Type 0 where
@@ -38,7 +38,7 @@ pub record StepsThrough (g : Graph) (c : Choices) (pin source : ℕ) : Type 0 wh
   pub input : ℕ
   pub holds : lut_of c at.pb.0 ≡ Some (Wire input)
   pub used : is_used c at.pb.0 ≡ true
-  pub live : IsLiveAt g c at.pb.0
+  pub live : IsLiveAt g (mode_of c) at.pb.0
   pub leads : slice_get g.pins source ≡ Some (pin_at at.pb.0 port input)
 
 -- one step back from the pin leads to `source`

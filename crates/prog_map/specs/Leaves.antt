@@ -1,6 +1,6 @@
 -- Leaves of a block type, and the inputs and the output of a LUT.
 use Rattle.std.specs.Prelude.{◌≡◌, ◌<◌, ◌^◌, ℕ, List, Option, Some, map, slice_get}
-use Rattle.std.specs.Option.{option_map}
+use Rattle.std.specs.Option.{option_map, option_and_then}
 use Rattle.vtr_base.specs.Lists.{IsFirstPlace}
 use Rattle.arch_types.specs.declared.block.PbType.{PbType}
 use Rattle.arch_types.specs.declared.block.Port.{Port}
@@ -12,7 +12,10 @@ use Rattle.pb_expand.specs.declared.number.PbKind.{PbKind}
 use Rattle.pb_expand.specs.declared.number.PbKind.TheVariants.{Leaf, Modes}
 use Rattle.pb_expand.specs.declared.number.PinAt.{PinAt}
 use Rattle.pb_expand.specs.Graph.{Graph, block_at, kind_of}
-use Rattle.prog_map.specs.Names.{port_at}
+
+-- the port of a pin
+abbrev pub port_at : Graph → PinAt → Option Port
+port_at g pin = option_and_then (λ (block : PbType). slice_get block.ports pin.port) (block_at g pin.pb.0)
 
 -- what the instance of number n is
 abbrev pub kind_at : Graph → ℕ → Option PbKind

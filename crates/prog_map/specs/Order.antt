@@ -1,8 +1,9 @@
 -- The order of sites: of an instance its own site or sites, and then mode by mode the pins in that
 -- mode, by the first edge into each, and the instances that hang on it by that mode.
-use Rattle.std.specs.Prelude.{◌≡◌, ◌⊎◌, ◌==◌, ◌&&◌, ◌<◌, ◌++◌, ℕ, zero, suc, Bool, false, List, [], ◌∷◌, Option, Some, None, map, flat_map, length, slice_get}
+use Rattle.std.specs.Prelude.{◌≡◌, ◌⊎◌, ◌==◌, ◌&&◌, ◌+◌, ◌++◌, ℕ, zero, suc, Bool, false, List, [], ◌∷◌, Option, Some, None, map, flat_map, slice_get}
 use Rattle.std.specs.Option.{option_map_or}
-use Rattle.vtr_base.specs.Lists.{up_from}
+use Rattle.arch_types.specs.declared.block.Kind.{Kind, Modes', Row_of-Mode, end_of-Mode, more_of-Mode}
+use Rattle.arch_types.specs.declared.block.Mode.{Mode, Mode', Row_of-PbType, end_of-PbType, more_of-PbType}
 use Rattle.arch_types.specs.Address.{Address, Hop}
 use Rattle.arch_types.specs.declared.block.AtomKind.TheVariants.{InPad, OutPad, Lut, Latch, Cell}
 use Rattle.pb_expand.specs.declared.number.Edge.{Edge}
@@ -10,12 +11,10 @@ use Rattle.pb_expand.specs.declared.number.EdgeIx.{EdgeIx}
 use Rattle.pb_expand.specs.declared.number.PbKind.{PbKind}
 use Rattle.pb_expand.specs.declared.number.PbKind.TheVariants.{Leaf, Modes}
 use Rattle.pb_expand.specs.declared.number.Step.{Step}
-use Rattle.pb_expand.specs.Graph.{Graph, LeadsTo, pb_ix, pin_ix, into_from}
+use Rattle.pb_expand.specs.Graph.{Graph, LeadsTo, kind_of, pb_ix, pin_ix, into_from}
 use Rattle.prog_map.specs.declared.choice.LSite.{LSite}
 use Rattle.prog_map.specs.declared.choice.LSite.TheVariants as site
-use Rattle.prog_map.specs.declared.order.Order.{Order}
-use Rattle.prog_map.specs.Leaves.{kind_at}
-use Rattle.prog_map.specs.Groups.{grouped, places_from}
+use Rattle.prog_map.specs.Groups.{places_from}
 
 abbrev pub same_hop : Hop → Hop → Bool
 same_hop h k = (h.mode == k.mode) && ((h.child == k.child) && (h.instance == k.instance))
@@ -79,26 +78,39 @@ count_of None = 0
 count_of (Some (Modes count)) = count
 count_of (Some (Leaf atom)) = 0
 
--- the sites in a mode of an instance, where `under` gives those of the instances in it
-abbrev pub mode_sites : Graph → (ℕ → List LSite) → ℕ → ℕ → List LSite
-mode_sites g under pb mode = map (end_site g mode) (first_edges g pb mode) ++ flat_map under (kids g pb mode)
+-- which child of its parent's mode an instance is
+abbrev pub last_child : Address → ℕ
+last_child [] = 0
+last_child (hop ∷ []) = hop.child
+last_child (hop ∷ next ∷ hops) = last_child (next ∷ hops)
 
--- the sites of an instance and of those below it, so many levels deep
-abbrev pub sites_under : Graph → ℕ → ℕ → List LSite
-sites_under g zero pb = []
-sites_under g (suc levels) pb =
-    own_sites pb (kind_at g pb) ++ flat_map (λ mode. mode_sites g (λ kid. sites_under g levels kid) pb mode) (up_from 0 (count_of (kind_at g pb)))
+abbrev pub child_of : Graph → ℕ → ℕ
+child_of g n = option_map_or last_child (slice_get g.instances n) 0
 
--- the sites of a block type in their order. It has no more levels than instances
+abbrev mutual
+  -- the sites below an instance of that kind: those of its modes, one after another
+  pub sites_below : Graph → Kind → ℕ → List LSite
+  sites_below g (Modes' n modes) pb = sites_in_modes g modes pb 0
+  sites_below g _ pb = []
+
+  pub sites_in_modes : {n : _} → Graph → Row_of-Mode n → ℕ → ℕ → List LSite
+  sites_in_modes g end_of-Mode pb mode = []
+  sites_in_modes g (more_of-Mode m rest) pb mode = sites_in_mode g m pb mode ++ sites_in_modes g rest pb (mode + 1)
+
+  -- of a mode the pins in it, and then the instances in it, each with what is below it
+  pub sites_in_mode : Graph → Mode → ℕ → ℕ → List LSite
+  sites_in_mode g (Mode' name n children inters metas) pb mode =
+      map (end_site g mode) (first_edges g pb mode) ++ flat_map (λ kid. sites_of_child g children (child_of g kid) kid) (kids g pb mode)
+
+  pub sites_of_child : {n : _} → Graph → Row_of-PbType n → ℕ → ℕ → List LSite
+  sites_of_child g end_of-PbType child pb = []
+  sites_of_child g (more_of-PbType name count ports kind metas rest) zero pb = own_sites pb (Some (kind_of kind)) ++ sites_below g kind pb
+  sites_of_child g (more_of-PbType name count ports kind metas rest) (suc child) pb = sites_of_child g rest child pb
+
+-- the sites of a block type in their order
 abbrev pub site_order : Graph → List LSite
-site_order g = sites_under g (length g.instances) 0
+site_order g = own_sites 0 (Some (kind_of g.root.kind)) ++ sites_below g g.root.kind 0
 
 -- the instance is the root, or hangs on an earlier one
 abbrev pub HasParent : Graph → ℕ → Type 0
 HasParent g pb = (pb ≡ 0) ⊎ ((step : Step) × LeadsTo g.instances step pb)
-
--- the tables hold the instances that hang on each mode, and its first edges
-pub record IsOrderOf (g : Graph) (o : Order) : Type 0 where
-  pub kids : (pb mode : ℕ) → grouped o.kids.numbers pb mode ≡ kids g pb mode
-  pub firsts : (pb mode : ℕ) → grouped o.firsts.numbers pb mode ≡ first_edges g pb mode
-  pub parents : (pb : ℕ) → pb < length g.instances → HasParent g pb

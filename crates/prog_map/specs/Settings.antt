@@ -1,94 +1,33 @@
--- The site and the choice that a line names, and what it lacks where there is none.
-use Rattle.std.specs.Prelude.{◌≡◌, ◌==◌, ◌⊎◌, ℕ, Bool, true, List, [], ◌∷◌, ◌++◌, None, IsSome}
-use Rattle.pb_expand.specs.declared.number.Edge.{Edge}
-use Rattle.pb_expand.specs.Graph.{Graph}
-use Rattle.prog_map.specs.declared.choice.LSite.{LSite}
-use Rattle.prog_map.specs.declared.choice.LSite.TheVariants as site
-use Rattle.prog_map.specs.declared.choice.LutChoice.TheVariants.{Wire, Table}
-use Rattle.prog_map.specs.declared.setting.Setting.{Setting}
-use Rattle.prog_map.specs.declared.setting.Setting.TheVariants.{Mode, Pick, Used, Lut}
-use Rattle.prog_map.specs.Leaves.{IsLeaf, IsLut, HasModes}
-use Rattle.prog_map.specs.Choices.{Choices, mode_of, pick_of, is_used, lut_of, with_mode, with_pick, with_used, with_lut, IsLutChoice}
-use Rattle.prog_map.specs.Names.{NamesInstance, NamesPin, NamesMode}
-use Rattle.prog_map.specs.NamedEdges.{IsEdgeNamed, IsNamedEdge, IsEdgeWanted}
-use Rattle.prog_map.specs.Sayings.{Saying, says_mode, says_pin, says_used, says_wire, says_table}
+-- What choices are after one site was set: that site has its choice, and each other site, of the same
+-- kind or another, has what it had.
+use Rattle.std.specs.Prelude.{◌≡◌, ◌≢◌, ℕ, true, Some}
+use Rattle.prog_map.specs.declared.choice.LutChoice.{LutChoice}
+use Rattle.prog_map.specs.Choices.{Choices, mode_of, pick_of, is_used, lut_of}
 
--- the table that digits write, the highest bit first
-abbrev pub table_of : List ℕ → List Bool
-table_of [] = []
-table_of (digit ∷ digits) = table_of digits ++ (digit == 49) ∷ []
+pub record SetsMode (old new : Choices) (pb mode : ℕ) : Type 0 where
+  pub here : mode_of new pb ≡ Some mode
+  pub modes : (q : ℕ) → q ≢ pb → mode_of new q ≡ mode_of old q
+  pub picks : (p m : ℕ) → pick_of new p m ≡ pick_of old p m
+  pub uses : (q : ℕ) → is_used new q ≡ is_used old q
+  pub luts : (q : ℕ) → lut_of new q ≡ lut_of old q
 
--- the pins and the mode name this edge
-pub record NamesEdge (g : Graph) (pin mode source : List ℕ) (into in_mode number : ℕ) : Type 0 where
-  pub edge : Edge
-  pub is_pin : NamesPin g pin into
-  pub is_source : NamesPin g source edge.src.0
-  pub named : IsEdgeNamed g number into mode edge.src.0 edge
-  pub is_mode : in_mode ≡ edge.mode
+pub record SetsPick (old new : Choices) (pin mode edge : ℕ) : Type 0 where
+  pub here : pick_of new pin mode ≡ Some edge
+  pub picks : (p m : ℕ) → ((p ≡ pin) × (m ≡ mode) → ⊥) → pick_of new p m ≡ pick_of old p m
+  pub modes : (q : ℕ) → mode_of new q ≡ mode_of old q
+  pub uses : (q : ℕ) → is_used new q ≡ is_used old q
+  pub luts : (q : ℕ) → lut_of new q ≡ lut_of old q
 
--- the line names this site and this choice
-abbrev pub Names : Graph → Saying → Setting → Type 0
-Names g (says_mode instance mode) (Mode pb number) = NamesInstance g instance pb.0 × HasModes g pb.0 × NamesMode g pb.0 mode number
-Names g (says_pin pin mode source) (Pick into in_mode edge) = NamesEdge g pin mode source into.0 in_mode edge.0
-Names g (says_used instance) (Used pb) = NamesInstance g instance pb.0 × IsLeaf g pb.0
-Names g (says_wire instance input) (Lut pb choice) = NamesInstance g instance pb.0 × (choice ≡ Wire input) × IsLutChoice g pb.0 choice
-Names g (says_table instance digits) (Lut pb choice) =
-    NamesInstance g instance pb.0 × (choice ≡ Table (table_of digits)) × IsLutChoice g pb.0 choice
-Names g _ _ = ⊥
+pub record SetsUsed (old new : Choices) (pb : ℕ) : Type 0 where
+  pub here : is_used new pb ≡ true
+  pub uses : (q : ℕ) → q ≢ pb → is_used new q ≡ is_used old q
+  pub modes : (q : ℕ) → mode_of new q ≡ mode_of old q
+  pub picks : (p m : ℕ) → pick_of new p m ≡ pick_of old p m
+  pub luts : (q : ℕ) → lut_of new q ≡ lut_of old q
 
--- no instance is written so, or one that has no such site
-abbrev pub LacksInstance : Graph → List ℕ → (ℕ → Type 0) → Type 0
-LacksInstance g text HasSite = ((pb : ℕ) → NamesInstance g text pb → ⊥) ⊎ ((pb : ℕ) × NamesInstance g text pb × (HasSite pb → ⊥))
-
--- the site that the line names isn't there: no such instance, or one of another kind; no such pin, or
--- one without an edge in a mode of that name
-abbrev pub LacksSite : Graph → Saying → Type 0
-LacksSite g (says_mode instance mode) = LacksInstance g instance (HasModes g)
-LacksSite g (says_pin pin mode source) =
-    ((n : ℕ) → NamesPin g pin n → ⊥) ⊎ ((n : ℕ) × NamesPin g pin n × ((edge : ℕ) → IsEdgeWanted g edge n mode None → ⊥))
-LacksSite g (says_used instance) = LacksInstance g instance (IsLeaf g)
-LacksSite g (says_wire instance input) = LacksInstance g instance (IsLut g)
-LacksSite g (says_table instance digits) = LacksInstance g instance (IsLut g)
-
--- no pin is written so, or one from which no edge of a mode of that name leads to the pin
-abbrev pub LacksSource : Graph → ℕ → List ℕ → List ℕ → Type 0
-LacksSource g pin mode source =
-    ((n : ℕ) → NamesPin g source n → ⊥) ⊎ ((n : ℕ) × NamesPin g source n × ((edge : ℕ) → IsNamedEdge g edge pin mode n → ⊥))
-
--- the site is there, but not the choice: no mode of that name, no such edge, no such input of the
--- LUT, or a table of another length
-abbrev pub LacksChoice : Graph → Saying → Type 0
-LacksChoice g (says_mode instance mode) =
-    (pb : ℕ) × NamesInstance g instance pb × HasModes g pb × ((number : ℕ) → NamesMode g pb mode number → ⊥)
-LacksChoice g (says_pin pin mode source) =
-    (n : ℕ) × NamesPin g pin n × ((edge : ℕ) × IsEdgeWanted g edge n mode None) × LacksSource g n mode source
-LacksChoice g (says_used instance) = ⊥
-LacksChoice g (says_wire instance input) = (pb : ℕ) × NamesInstance g instance pb × IsLut g pb × (IsLutChoice g pb (Wire input) → ⊥)
-LacksChoice g (says_table instance digits) =
-    (pb : ℕ) × NamesInstance g instance pb × IsLut g pb × (IsLutChoice g pb (Table (table_of digits)) → ⊥)
-
-abbrev pub site_of : Setting → LSite
-site_of (Mode pb mode) = site.Mode pb
-site_of (Pick pin mode edge) = site.Pin pin mode
-site_of (Used pb) = site.Used pb
-site_of (Lut pb choice) = site.Lut pb
-
--- the site has a choice
-abbrev pub HasChoice : Choices → LSite → Type 0
-HasChoice c (site.Mode pb) = IsSome (mode_of c pb.0)
-HasChoice c (site.Pin pin mode) = IsSome (pick_of c pin.0 mode)
-HasChoice c (site.Used pb) = is_used c pb.0 ≡ true
-HasChoice c (site.Lut pb) = IsSome (lut_of c pb.0)
-
--- the choices with one site set
-abbrev pub with_setting : Choices → Setting → Choices
-with_setting c (Mode pb mode) = with_mode c pb.0 mode
-with_setting c (Pick pin mode edge) = with_pick c pin.0 mode edge.0
-with_setting c (Used pb) = with_used c pb.0
-with_setting c (Lut pb choice) = with_lut c pb.0 choice
-
--- a line that says one of these names this site and this choice
-pub record IsNamed (g : Graph) (Said : Saying → Type 0) (setting : Setting) : Type 0 where
-  pub saying : Saying
-  pub said : Said saying
-  pub names : Names g saying setting
+pub record SetsLut (old new : Choices) (pb : ℕ) (choice : LutChoice) : Type 0 where
+  pub here : lut_of new pb ≡ Some choice
+  pub luts : (q : ℕ) → q ≢ pb → lut_of new q ≡ lut_of old q
+  pub modes : (q : ℕ) → mode_of new q ≡ mode_of old q
+  pub picks : (p m : ℕ) → pick_of new p m ≡ pick_of old p m
+  pub uses : (q : ℕ) → is_used new q ≡ is_used old q

@@ -8,14 +8,14 @@ use std::collections::HashMap;
 
 /// An instance and one of its modes.
 #[derive(Clone, Copy, Debug, PartialEq, Eq, Hash)]
-pub(crate) struct ModeAt {
-    pub(crate) pb: PbIx,
-    pub(crate) mode: u32,
+pub struct ModeAt {
+    pub pb: PbIx,
+    pub mode: u32,
 }
 
 /// Numbers by the mode to which they belong, in the order in which they were added.
 #[derive(Drop)]
-pub(crate) struct Groups {
+pub struct Groups {
     numbers: HashMap<ModeAt, Items<u32>>,
 }
 
@@ -36,7 +36,7 @@ impl Groups {
     }
 
     /// The numbers of a mode.
-    pub(crate) fn of(&self, pb: PbIx, mode: u32) -> &[u32]
+    pub fn of(&self, pb: PbIx, mode: u32) -> &[u32]
         ensures { result.now ≡ grouped self.now.numbers pb.0 mode }
     {
         match self.numbers.get(&ModeAt { pb, mode }) {

@@ -1,44 +1,28 @@
-ghost use Rattle.std.specs.Prelude.{◌≡◌, ℕ, Some, IfOk, IfErr, slice_get};
-ghost use Rattle.arch_types.specs.declared.block.PbType.{PbType};
-ghost use Rattle.prog_map.specs.Choices.{IsProgOf};
-ghost use Rattle.prog_map.specs.Laws.{SpellsOneProg, IsReadWhereSpelled, RefusesInOneWay};
-ghost use Rattle.prog_map.specs.Plain.{HasPlainNames};
+ghost use Rattle.std.specs.Prelude.{◌≡◌, ℕ};
+ghost use Rattle.prog_map.specs.declared.choice.LutChoice.{LutChoice};
+ghost use Rattle.prog_map.specs.Choices.{Choices, with_mode, with_pick, with_used, with_lut};
+ghost use Rattle.prog_map.specs.Settings.{SetsMode, SetsPick, SetsUsed, SetsLut};
+ghost use Rattle.prog_map.specs.Back.{StepsBack};
+ghost use Rattle.prog_map.specs.Walk.{IsLast, Carried, IsSource};
 
-use crate::{Prog, ProgError, read_prog, write_prog};
-use arch_types::Arch;
 use pb_expand::PbGraph;
-use std::alloc::Global;
 
-/// The round trip: what a programming is read as when it has been written. Where the names of the
-/// block type are plain, it comes back, or memory runs out.
-pub fn read_back(alloc: Global, graph: &PbGraph, prog: &Prog) -> Result<Prog, ProgError>
-    requires { IsProgOf graph.now prog.now }
-    ensures of { IfOk result (IsProgOf graph.now) }
-    ensures same { HasPlainNames graph.now.root → IfOk result (λ p. p ≡ prog.now) }
-    ensures memory { HasPlainNames graph.now.root → IfErr result (λ e. e ≡ ProgError.OutOfMemory) }
+/// What the look-ups of a programming give after a site was set. It does nothing.
+pub fn setting_laws()
+    ensures mode { (c : Choices) (pb mode : ℕ) → SetsMode c (with_mode c pb mode) pb mode }
+    ensures pick { (c : Choices) (pin mode edge : ℕ) → SetsPick c (with_pick c pin mode edge) pin mode edge }
+    ensures uses { (c : Choices) (pb : ℕ) → SetsUsed c (with_used c pb) pb }
+    ensures lut { (c : Choices) (pb : ℕ) (choice : LutChoice) → SetsLut c (with_lut c pb choice) pb choice }
+{}
+
+/// The laws of steps back: a pin has one at most, and so one last pin, from which it is carried; and it
+/// is carried from one pin at most from which no step leads back. It does nothing.
+pub fn step_laws(graph: &PbGraph)
+    ensures one { (c : Choices) (p q r : ℕ) → StepsBack graph.now c p q → StepsBack graph.now c p r → q ≡ r }
+    ensures last { (c : Choices) (p q r : ℕ) → IsLast (StepsBack graph.now c) p q → IsLast (StepsBack graph.now c) p r → q ≡ r }
+    ensures carried { (c : Choices) (p q : ℕ) → IsLast (StepsBack graph.now c) p q → Carried graph.now c p q }
+    ensures source { (c : Choices) (p s t : ℕ) → IsSource graph.now c p s → IsSource graph.now c p t → s ≡ t }
 {
     graph.law();
-    let mut text = Vec::new(alloc);
-    write_prog(&mut text, graph, prog)?;
-    read_prog(alloc, text.as_slice(), graph)
-}
-
-/// The laws of the text, where the names of the block type are plain, so that what `read_prog`
-/// promises of its answers decides each answer: a text spells at most one programming, one that
-/// spells a programming is refused by want of memory alone, and else it is refused in one way. It
-/// does nothing.
-pub fn laws_of_the_text(graph: &PbGraph)
-    ensures one { HasPlainNames graph.now.root → SpellsOneProg graph.now }
-    ensures read { HasPlainNames graph.now.root → IsReadWhereSpelled graph.now }
-    ensures refused { HasPlainNames graph.now.root → RefusesInOneWay graph.now }
-{
-    graph.law();
-}
-
-/// The names in each block type of an architecture are plain, so that the laws on the text of
-/// programmings hold of its graph. It does nothing.
-pub fn plain_names(arch: &Arch)
-    ensures { (n : ℕ) (root : PbType) → slice_get arch.now.blocks n ≡ Some root → HasPlainNames root }
-{
-    arch.law();
+    graph.keeps();
 }

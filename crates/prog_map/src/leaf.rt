@@ -1,21 +1,20 @@
 ghost use Rattle.std.specs.Prelude.{◌≡◌, ◌<◌, ◌^◌, ◌↔◌, ℕ, IfSome, IsFalse, IsSome, IsTrue, MatchOption, Some, length, slice_get};
 ghost use Rattle.arch_types.specs.declared.block.Side.TheVariants.{Input};
 ghost use Rattle.vtr_base.specs.Lists.{IsFirstPlace};
-ghost use Rattle.prog_map.specs.Leaves.{AreInputs, sides_of, IsLeaf, IsLut, HasModes, IsOutput};
-ghost use Rattle.prog_map.specs.Names.{port_at};
+ghost use Rattle.prog_map.specs.Leaves.{AreInputs, sides_of, IsLeaf, IsLut, HasModes, IsOutput, port_at};
 
 use arch_types::{AtomKind, Port, Side};
 use pb_expand::{PbGraph, PbIx, PbKind, PinAt};
 
 /// Through which port a LUT reads, and how many inputs it has.
 #[derive(Clone, Copy, Debug, PartialEq, Eq)]
-pub(crate) struct Inputs {
-    pub(crate) port: u32,
-    pub(crate) width: u32,
+pub struct Inputs {
+    pub port: u32,
+    pub width: u32,
 }
 
 /// The inputs of a LUT; nothing where the instance is none, or reads through no port.
-pub(crate) fn inputs_of(graph: &PbGraph, pb: PbIx) -> Option<Inputs>
+pub fn inputs_of(graph: &PbGraph, pb: PbIx) -> Option<Inputs>
     requires { pb.0 < length graph.now.instances }
     ensures inputs { MatchOption result ((port width : ℕ) → AreInputs graph.now pb.0 port width → ⊥) (λ inputs. AreInputs graph.now pb.0 inputs.port inputs.width) }
     ensures narrow { IfSome result (λ inputs. inputs.width < 2 ^ 32) }
@@ -33,7 +32,7 @@ pub(crate) fn inputs_of(graph: &PbGraph, pb: PbIx) -> Option<Inputs>
 }
 
 /// Whether an instance is a LUT.
-pub(crate) fn is_lut(graph: &PbGraph, pb: PbIx) -> bool
+pub fn is_lut(graph: &PbGraph, pb: PbIx) -> bool
     requires { pb.0 < length graph.now.instances }
     ensures { IsTrue result ↔ IsLut graph.now pb.0 }
 {
@@ -41,7 +40,7 @@ pub(crate) fn is_lut(graph: &PbGraph, pb: PbIx) -> bool
 }
 
 /// Whether an instance is a leaf.
-pub(crate) fn is_leaf(graph: &PbGraph, pb: PbIx) -> bool
+pub fn is_leaf(graph: &PbGraph, pb: PbIx) -> bool
     requires { pb.0 < length graph.now.instances }
     ensures leaf { IsTrue result ↔ IsLeaf graph.now pb.0 }
     ensures modes { IsFalse result ↔ HasModes graph.now pb.0 }

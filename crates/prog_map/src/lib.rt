@@ -3,40 +3,27 @@
 #![tactic(auto)]
 
 mod back;
+mod busy;
 mod choice;
-mod digits;
-mod error;
-mod find;
+mod ends;
 mod groups;
-mod into;
 mod laws;
 mod leaf;
-mod line;
-mod lines;
 mod live;
-mod modes;
-mod names;
 mod order;
 mod prog;
-mod read;
-mod resolve;
 mod setting;
-mod table;
+mod sites;
 mod walk;
-mod words;
-mod write;
 
 pub use back::follow;
 pub use choice::{LSite, LutChoice};
-pub use error::ProgError;
-pub use laws::{laws_of_the_text, plain_names, read_back};
-pub use lines::next_line;
-pub use live::is_live;
-pub use names::{put_instance, put_pin};
+pub use groups::{Groups, ModeAt};
+pub use laws::{setting_laws, step_laws};
+pub use leaf::{Inputs, inputs_of, is_leaf, is_lut};
+pub use live::{live_instances, live_laws};
+pub use order::Order;
 pub use prog::Prog;
-pub use read::read_prog;
-pub use walk::last_pin;
-pub use write::write_prog;
-
-#[cfg(test)]
-mod tests;
+pub use setting::Setting;
+pub use sites::sites_of;
+pub use walk::last_pins;

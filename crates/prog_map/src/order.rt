@@ -1,28 +1,34 @@
 ghost use Rattle.std.specs.Prelude.{◌≡◌, ◌<◌, ◌↔◌, ℕ, IsTrue, IfOk, OnOk, length};
 ghost use Rattle.prog_map.specs.Groups.{GetsNumber, grouped};
-ghost use Rattle.prog_map.specs.Order.{IsOrderOf, HasParent, hangs_at, opens_at, starts_at, kids, first_edges};
+ghost use Rattle.prog_map.specs.Order.{HasParent, hangs_at, opens_at, starts_at, kids, first_edges};
+ghost use Rattle.prog_map.specs.Tables.{IsOrderOf};
 
+use crate::busy::busy_modes;
 use crate::groups::{Groups, ModeAt};
+use flat_tables::FlatTable;
 use pb_expand::{EdgeIx, PbGraph, PbIx};
 use std::alloc::{AllocError, Global};
 
 /// What follows an instance in the order of sites, by its modes.
 #[derive(Drop)]
-pub(crate) struct Order {
+pub struct Order {
     /// The instances that hang on it by a mode.
-    pub(crate) kids: Groups,
+    pub kids: Groups,
     /// Of a mode's edges those that are the first into their ends.
-    pub(crate) firsts: Groups,
+    pub firsts: Groups,
+    /// Of each instance the modes in which something stands.
+    pub busy: FlatTable<u32>,
 }
 
 impl Order {
-    /// Goes once over the instances and once over the edges of a graph.
-    pub(crate) fn new(alloc: Global, graph: &PbGraph) -> Result<Order, AllocError>
+    /// Goes twice over the instances and twice over the edges of a graph.
+    pub fn new(alloc: Global, graph: &PbGraph) -> Result<Order, AllocError>
         ensures { IfOk result (IsOrderOf graph.now) }
     {
         Ok(Order {
             kids: kids_of(alloc, graph)?,
             firsts: firsts_of(alloc, graph)?,
+            busy: busy_modes(alloc, graph)?,
         })
     }
 }

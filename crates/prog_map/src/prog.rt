@@ -1,7 +1,9 @@
 ghost use Rattle.std.specs.Prelude.{◌≡◌, ◌↔◌, ℕ, Some, IsTrue, OnOk, OnErr, IfOk, MatchOption, true};
 ghost use Rattle.std.specs.Option.{option_map};
-ghost use Rattle.prog_map.specs.Choices.{no_choices, mode_of, pick_of, is_used, lut_of, with_mode, with_pick, with_used, with_lut, IsProgOf};
-ghost use Rattle.prog_map.specs.Settings.{HasChoice, with_setting};
+ghost use Rattle.prog_map.specs.Choices.{no_choices, mode_of, pick_of, is_used, lut_of, with_mode, with_pick, with_used, with_lut, IsProgOf, IsModeOf, IsEdgeInto, IsLutChoice};
+ghost use Rattle.prog_map.specs.Leaves.{IsLeaf};
+ghost use Rattle.pb_expand.specs.Graph.{Graph};
+ghost use Rattle.prog_map.specs.Sites.{HasChoice, with_setting};
 
 use crate::setting::Setting;
 use crate::{LSite, LutChoice};
@@ -90,7 +92,7 @@ impl Prog {
     }
 
     /// Whether a site has a choice.
-    pub(crate) fn is_set(&self, site: LSite) -> bool
+    pub fn is_set(&self, site: LSite) -> bool
         ensures { IsTrue result ↔ HasChoice self.now site }
     {
         match site {
@@ -113,36 +115,41 @@ impl Prog {
         })
     }
 
-    /// Sets an instance to a mode.
-    pub(crate) fn set_mode(&mut self, pb: PbIx, mode: u32) -> Result<(), AllocError>
+    /// Sets an instance to a mode. A programming of a graph stays one where the graph has the mode.
+    pub fn set_mode(&mut self, pb: PbIx, mode: u32) -> Result<(), AllocError>
         ensures ok { OnOk result (self.new ≡ with_mode self.old pb.0 mode) }
+        ensures of { (g : Graph) → IsProgOf g self.old → IsModeOf g pb.0 mode → IsProgOf g self.new }
         ensures err { OnErr result (self.new ≡ self.old) }
     {
         self.modes.insert(pb.0, mode)?;
         Ok(())
     }
 
-    /// Lets a pin take an edge in a mode.
-    pub(crate) fn set_edge(&mut self, pin: PinIx, mode: u32, edge: EdgeIx) -> Result<(), AllocError>
+    /// Lets a pin take an edge in a mode. A programming of a graph stays one where the edge leads into
+    /// the pin in that mode.
+    pub fn set_edge(&mut self, pin: PinIx, mode: u32, edge: EdgeIx) -> Result<(), AllocError>
         ensures ok { OnOk result (self.new ≡ with_pick self.old pin.0 mode edge.0) }
+        ensures of { (g : Graph) → IsProgOf g self.old → IsEdgeInto g pin.0 mode edge.0 → IsProgOf g self.new }
         ensures err { OnErr result (self.new ≡ self.old) }
     {
         self.picks.insert((pin.0, mode), edge.0)?;
         Ok(())
     }
 
-    /// Uses a leaf.
-    pub(crate) fn set_used(&mut self, pb: PbIx) -> Result<(), AllocError>
+    /// Uses a leaf. A programming of a graph stays one where the instance is a leaf.
+    pub fn set_used(&mut self, pb: PbIx) -> Result<(), AllocError>
         ensures ok { OnOk result (self.new ≡ with_used self.old pb.0) }
+        ensures of { (g : Graph) → IsProgOf g self.old → IsLeaf g pb.0 → IsProgOf g self.new }
         ensures err { OnErr result (self.new ≡ self.old) }
     {
         self.leaves.insert(pb.0)?;
         Ok(())
     }
 
-    /// Lets a LUT hold a choice.
-    pub(crate) fn set_lut(&mut self, pb: PbIx, choice: LutChoice) -> Result<(), AllocError>
+    /// Lets a LUT hold a choice. A programming of a graph stays one where the choice is one of the LUT.
+    pub fn set_lut(&mut self, pb: PbIx, choice: LutChoice) -> Result<(), AllocError>
         ensures ok { OnOk result (self.new ≡ with_lut self.old pb.0 choice) }
+        ensures of { (g : Graph) → IsProgOf g self.old → IsLutChoice g pb.0 choice → IsProgOf g self.new }
         ensures err { OnErr result (self.new ≡ self.old) }
     {
         self.luts.insert(pb.0, choice)?;
@@ -150,7 +157,7 @@ impl Prog {
     }
 
     /// Sets a site to its choice.
-    pub(crate) fn set(&mut self, setting: Setting) -> Result<(), AllocError>
+    pub fn set(&mut self, setting: Setting) -> Result<(), AllocError>
         ensures ok { OnOk result (self.new ≡ with_setting self.old setting) }
         ensures err { OnErr result (self.new ≡ self.old) }
     {

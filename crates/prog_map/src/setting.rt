@@ -1,12 +1,12 @@
 ghost use Rattle.std.specs.Prelude.{◌≡◌};
-ghost use Rattle.prog_map.specs.Settings.{site_of};
+ghost use Rattle.prog_map.specs.Sites.{site_of};
 
 use crate::{LSite, LutChoice};
 use pb_expand::{EdgeIx, PbIx, PinIx};
 
 /// A site and its choice.
 #[derive(Debug, Drop)]
-pub(crate) enum Setting {
+pub enum Setting {
     /// An instance and its mode.
     Mode(PbIx, u32),
     /// A pin in a mode, and the edge that it takes.
@@ -19,7 +19,7 @@ pub(crate) enum Setting {
 
 impl Setting {
     /// The site that is set.
-    pub(crate) fn site(&self) -> LSite
+    pub fn site(&self) -> LSite
         ensures { result ≡ site_of self.now }
     {
         match self {

@@ -1,6 +1,5 @@
 use Rattle.std.proofs.Common.{arith}
-use Rattle.prog_map.proofs.Wanted.{untrue}
-use Rattle.prog_map.proofs.Sides.{no_more_input, no_input_at_all}
+use Rattle.prog_map.proofs.Sides.{untrue, no_more_input, no_input_at_all}
 use Rattle.prog_map.proofs.leaf.first_input.Goals as goal
 
 pub loop-place-preserved : goal.loop-place-preserved

@@ -2,8 +2,7 @@ use Rattle.prog_map.specs.declared.groups.ModeAt.{ModeAt}
 use Rattle.prog_map.specs.Groups.{GetsNumber, same_mode, mode_ix}
 use Rattle.prog_map.specs.Order.{hangs_at}
 use Rattle.prog_map.proofs.GroupLemmas.{none_added, same_added}
-use Rattle.prog_map.proofs.Hanging.{hangs_is, root_hangs}
-use Rattle.prog_map.proofs.Parts.{on_ok_then}
+use Rattle.prog_map.proofs.Hanging.{hangs_is, root_hangs, on_ok_then}
 use Rattle.std.proofs.Common.{refl, inl, inr}
 use Rattle.prog_map.proofs.order.push_kid.Goals as goal
 

@@ -1,6 +1,0 @@
-use Rattle.std.proofs.Common.{drop}
-use Rattle.prog_map.proofs.Numerals.{IsReading}
-use Rattle.prog_map.proofs.digits.number.Given as goal
-
-abbrev pub invariant-loop-b : goal.invariant-loop-b
-invariant-loop-b l = IsReading l.text (drop l.b-index l.text) l.value

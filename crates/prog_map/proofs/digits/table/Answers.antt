@@ -1,6 +1,0 @@
-use Rattle.std.proofs.Common.{refl}
-use Rattle.prog_map.proofs.Tabled.{filled_next}
-use Rattle.prog_map.proofs.digits.table.Goals as goal
-
-pub loop-digit-preserved : goal.loop-digit-preserved
-loop-digit-preserved c = filled_next _ _ _ _ _ _ c.loop-digit.invariant c.loop-digit-test.true refl c.put.ensures

@@ -1,5 +1,0 @@
-use Rattle.prog_map.proofs.Tabled.{IsFilled}
-use Rattle.prog_map.proofs.digits.table.Given as goal
-
-abbrev pub invariant-loop-digit : goal.invariant-loop-digit
-invariant-loop-digit l = IsFilled l.digits l.bits l.place l.digit-index

@@ -1,4 +1,0 @@
-use Rattle.prog_map.proofs.live.+is_live.Given as goal
-
-abbrev pub decreases-is_live : goal.decreases-is_live
-decreases-is_live l = l.pb.0

@@ -1,5 +1,0 @@
-use Rattle.prog_map.proofs.Written.{port_there}
-use Rattle.prog_map.proofs.names.put_pin.Goals as goal
-
-pub port_name-requires-clause-there : goal.port_name-requires-clause-there
-port_name-requires-clause-there c = port_there _ _ c.pin_at-at.result c.law.ensures c.pin_at-at.ensures.is
