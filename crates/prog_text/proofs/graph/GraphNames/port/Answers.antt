@@ -1,0 +1,5 @@
+use Rattle.prog_text.proofs.BlockTables.{port_looked_up}
+use Rattle.prog_text.proofs.graph.GraphNames.port.Goals as goal
+
+pub returns : goal.returns
+returns c = port_looked_up c.args.graph.now c.args.pb.0 c.of.result.now c.of.ensures c.args.name.now c.get.result c.get.ensures

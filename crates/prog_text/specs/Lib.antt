@@ -1,0 +1,12 @@
+pub mod Names
+pub mod Steps
+pub mod Table
+pub mod NamedEdges
+pub mod Sayings
+pub mod Settings
+pub mod Lines
+pub mod Text
+pub mod Spelling
+pub mod Plain
+pub mod Laws
+pub mod Telling
