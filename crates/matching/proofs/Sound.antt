@@ -7,7 +7,7 @@ use Rattle.std.proofs.lemmas.List.{get_or_default, get_or_past, get_or-replicate
 use Rattle.matching.specs.Bipartite.{Graph, AreApart, GoTogether, IsPartial, IsPlacing, IsViolator, HasNoPlacing}
 use Rattle.matching.specs.Inside.{AreRows, AreCursors, AreClear, IsSound, IsLinked, IsTrail, IsReach, IsCovered, AreOwners, Extends, row_at, right_at}
 use Rattle.matching.proofs.Counting.{no_more_than, place_in, contains_at}
-use Rattle.matching.proofs.Steps.{put_more}
+use Rattle.matching.proofs.Steps.{put_more, taken_off, some_within}
 
 -- a right number that a row is paired with is within bounds
 pub right_within : (rows : List ℕ) (pairs : List (ℕ × ℕ)) (head next : List ℕ) (rights row right : ℕ) → AreRows rows pairs head next rights →
@@ -39,6 +39,19 @@ put_sound rows pairs head next cursor place owner seen scanned left right s join
     (put_more (record { rows = rows; pairs = pairs }) place owner left right s.partial joined
     (right_within rows pairs head next (length owner) (get_or rows left 0) right s.tied joined.1) unplaced free)
     (length-set owner right (Some left)) (record { each = refl; clear = s.unseen.clear }) (record { each = refl; clear = s.unscanned.clear })
+
+pub taken_sound : (rows : List ℕ) (pairs : List (ℕ × ℕ)) (head next cursor : List ℕ) (place owner : List (Option ℕ)) (seen scanned : List Bool) (left right : ℕ) →
+    IsSound rows pairs head next cursor place owner seen scanned → get_or place left None ≡ Some right →
+    IsSound rows pairs head next cursor (set place left None) (set owner right None) seen scanned
+taken_sound rows pairs head next cursor place owner seen scanned left right s placed =
+    placed_sound rows pairs head next cursor place owner (set place left None) (set owner right None) seen scanned seen scanned s
+    (taken_off (record { rows = rows; pairs = pairs }) place owner left right s.partial (s.partial.owned left right placed))
+    (length-set owner right None) (record { each = refl; clear = s.unseen.clear }) (record { each = refl; clear = s.unscanned.clear })
+
+-- a right number that a left one has is within bounds
+pub right_of_within : (rows : List ℕ) (pairs : List (ℕ × ℕ)) (head next cursor : List ℕ) (place owner : List (Option ℕ)) (seen scanned : List Bool) (left right : ℕ) →
+    IsSound rows pairs head next cursor place owner seen scanned → get_or place left None ≡ Some right → right < length owner
+right_of_within rows pairs head next cursor place owner seen scanned left right s placed = some_within owner right left (s.partial.owned left right placed)
 
 -- a row's cursor moves on to another pair of the row, or behind all pairs
 pub cursor_moves : (pairs : List (ℕ × ℕ)) (cursor : List ℕ) (rows row pair : ℕ) → AreCursors pairs cursor rows → row < rows →

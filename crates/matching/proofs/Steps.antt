@@ -1,6 +1,6 @@
 -- One step of a search and of a move along the way out.
 use Rattle.std.proofs.Common.{◌≡◌, ◌≢◌, ◌<◌, ◌≤◌, ◌+◌, ◌⊎◌, inl, inr, ℕ, List, [], ◌∷◌, ◌++◌, Bool, true, false, Option, Some, None, length, get_or, set, refl, sym, ◌∙◌, ap, subst, arith, get_or-set_other, get_or-set_same}
-use Rattle.std.specs.Prelude.{Contains, is_some}
+use Rattle.std.specs.Prelude.{Contains, IsSome, is_some}
 use Rattle.std.proofs.Math.ListN.{length-set}
 use Rattle.std.proofs.lemmas.Bool.{cases_lt, cases_eq}
 use Rattle.std.proofs.lemmas.List.{get_or_append_left, get_or_push, get_or_past, length_push, set_comm, set-set}
@@ -193,17 +193,26 @@ taken_off g place owner left behind p owned =
     }
 
 -- the moves along the way out, with `right` free for the left number at place `at`
-pub record IsShifting (rows : List ℕ) (pairs : List (ℕ × ℕ)) (first place owner : List (Option ℕ)) (lefts rights : List ℕ) (right at : ℕ) : Type 0 where
+pub record IsShifting (rows : List ℕ) (pairs : List (ℕ × ℕ)) (held first place owner : List (Option ℕ)) (lefts rights : List ℕ) (right at : ℕ) : Type 0 where
   pub partial : IsPartial (record { rows = rows; pairs = pairs }) place owner
   pub out : IsWayOut rows pairs owner lefts right at
   pub rest : (k : ℕ) → k < at → get_or owner (get_or rights k 0) None ≡ Some (get_or lefts (k + 1) 0)
   pub begin : get_or place (get_or lefts 0 0) None ≡ None
   pub same : (l : ℕ) → is_some (get_or place l None) ≡ is_some (get_or first l None)
+  pub owners : (r : ℕ) → IsSome (get_or held r None) → (r ≡ right) ⊎ IsSome (get_or owner r None)
+
+-- a right number is given to a left one
+owned_on : (owner : List (Option ℕ)) (right left r : ℕ) → right < length owner → (r ≡ right) ⊎ IsSome (get_or owner r None) →
+    IsSome (get_or (set owner right (Some left)) r None)
+owned_on owner right left r inside had = elim (set_cases owner right r (Some left) inside) [
+  | inl here ↦ rw here.1 refl
+  | inr other ↦ rw other.1 (elim had [ inl same ↦ absurd (other.0 same) | inr some ↦ some ])
+]
 
 pub shift_more : (rows : List ℕ) (pairs : List (ℕ × ℕ)) (old first place owner : List (Option ℕ)) (lefts rights from : List ℕ) (right at left behind next k : ℕ) →
-    IsTrail rows pairs old lefts rights from → IsShifting rows pairs first place owner lefts rights right at → at ≡ k + 1 →
+    IsTrail rows pairs old lefts rights from → IsShifting rows pairs old first place owner lefts rights right at → at ≡ k + 1 →
     left ≡ get_or lefts at 0 → behind ≡ get_or rights k 0 → next ≡ get_or from k 0 →
-    IsShifting rows pairs first (set place left (Some right)) (set (set owner right (Some left)) behind None) lefts rights behind next
+    IsShifting rows pairs old first (set place left (Some right)) (set (set owner right (Some left)) behind None) lefts rights behind next
 shift_more rows pairs old first place owner lefts rights from right at left behind next k t s at_is left_is behind_is next_is =
     let g : Graph = record { rows = rows; pairs = pairs } in
     let k_in : k < length rights = omega (arith, s.out.place, t.one_more) in
@@ -248,6 +257,11 @@ shift_more rows pairs old first place owner lefts rights from right at left behi
         | inl here ↦ (let had : is_some (get_or place l None) ≡ true = ap is_some (ap (λ n. get_or place n None) here.0 ∙ placed) in
             ap is_some here.1 ∙ (sym had ∙ s.same l))
         | inr other ↦ ap is_some other.1 ∙ s.same l
+      ];
+      owners = λ r had. elim (cases_eq r behind) [
+        | inl same ↦ inl same
+        | inr apart ↦ inr (rw (get_or-set_other (set owner right (Some left)) behind r None None apart)
+            (owned_on owner right left r s.out.within (s.owners r had)))
       ];
     }
 

@@ -57,6 +57,10 @@ pub record AddsLeft (old new : List (Option ℕ)) (left : ℕ) : Type 0 where
   pub kept : (l : ℕ) → IsSome (slice_index_or old l None) → IsSome (slice_index_or new l None)
   pub only : (l : ℕ) → IsSome (slice_index_or new l None) → (l ≡ left) ⊎ IsSome (slice_index_or old l None)
 
+-- the right numbers that had a left number have one, maybe another
+abbrev pub KeepsOwners : List (Option ℕ) → List (Option ℕ) → Type 0
+KeepsOwners old new = (r : ℕ) → IsSome (slice_index_or old r None) → IsSome (slice_index_or new r None)
+
 -- the same graph, with as many numbers on each side
 pub record IsSameGraph (old new : State) : Type 0 where
   pub graph : new.graph ≡ old.graph

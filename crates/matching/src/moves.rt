@@ -1,5 +1,5 @@
 ghost use Rattle.std.specs.Prelude.{◌≡◌, ◌<◌, ℕ, Option, Some, None, Contains, length, slice_index, slice_index_or, vec_len};
-ghost use Rattle.matching.specs.Bipartite.{Graph, IsPartial, AddsLeft};
+ghost use Rattle.matching.specs.Bipartite.{Graph, IsPartial, AddsLeft, KeepsOwners};
 ghost use Rattle.matching.specs.Inside.{IsTrail, IsWayOut};
 
 use crate::rows::Rows;
@@ -20,6 +20,7 @@ pub(crate) fn shift(
     requires out { IsWayOut rows.now.of.items rows.now.pairs.items owner.old trail.now.lefts.items out.right out.at }
     ensures partial { IsPartial (record { rows = rows.now.of.items; pairs = rows.now.pairs.items }) place.new owner.new }
     ensures adds { AddsLeft place.old place.new (slice_index trail.now.lefts.items 0) }
+    ensures owners { KeepsOwners owner.old owner.new }
 {
     let mut right = out.right;
     let mut at = out.at;

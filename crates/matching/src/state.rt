@@ -1,6 +1,6 @@
 ghost use Rattle.std.specs.Prelude.{◌≡◌, ◌<◌, ◌≤◌, ◌^◌, ℕ, All, IfOk, OnErr, MatchOption, Option, Some, None, IsSome, IfSome, IfNone, OnSome, Contains, length, replicate, slice_index, slice_index_or, slice_set, vec_len};
 ghost use Rattle.std.specs.Bool.{OnTrue, OnFalse};
-ghost use Rattle.matching.specs.Bipartite.{Graph, State, GoTogether, IsPlacing, HasNoPlacing, IsViolator, IsPartial, IsSameGraph, AddsLeft, AllPlaced, place_of, owner_of};
+ghost use Rattle.matching.specs.Bipartite.{Graph, State, GoTogether, IsPlacing, HasNoPlacing, IsViolator, IsPartial, IsSameGraph, AddsLeft, KeepsOwners, AllPlaced, place_of, owner_of};
 
 use crate::moves::shift;
 use crate::rows::Rows;
@@ -10,11 +10,12 @@ use std::marker::Model;
 
 /// A partial placing of left numbers on right ones. Left numbers have rows of right numbers that
 /// go with them; several may share a row. A left number that was placed stays placed, and a right
-/// number that has an owner keeps one.
+/// number that has an owner keeps one, unless `take_back` takes them apart.
 #[derive(Drop)]
 pub struct Matching {
     rows: Rows,
-    /// For each row a pair of it, in front of which no right number is free.
+    /// For each row a pair of it, in front of which no right number is free but those that were
+    /// given back since the cursor passed them.
     cursor: Vec<usize>,
     place: Vec<Option<u32>>,
     owner: Vec<Option<u32>>,
@@ -103,6 +104,23 @@ impl Matching {
         self.owner[right as usize] = Some(left);
     }
 
+    /// Takes a left number off its right one, and answers that. A row's cursor that has passed the
+    /// right number doesn't come back to it, but a search of `augment` finds it.
+    pub fn take_back(&mut self, left: u32) -> Option<u32>
+        requires { left < length self.old.place }
+        ensures was { result ≡ place_of self.old left }
+        ensures after { MatchOption result (self.new ≡ self.old)
+            (λ right. self.new ≡ record self.old {
+              place = slice_set self.old.place left None;
+              owner = slice_set self.old.owner right None;
+            }) }
+    {
+        let right = self.place[left as usize]?;
+        self.place[left as usize] = None;
+        self.owner[right as usize] = None;
+        Some(right)
+    }
+
     /// Places a left number, and moves others where that is needed; or answers left numbers, this
     /// one among them, that outnumber the right ones that go with them. A free right number is
     /// taken where the row has one. Else a search goes at most once through each row that it reaches,
@@ -112,6 +130,7 @@ impl Matching {
         requires unplaced { place_of self.old left ≡ None }
         ensures graph { IsSameGraph self.old self.new }
         ensures placed { IfOk result (λ stuck. IfNone stuck (AddsLeft self.old.place self.new.place left)) }
+        ensures owners { KeepsOwners self.old.owner self.new.owner }
         ensures violator { IfOk result (λ stuck. IfSome stuck (λ v. IsViolator self.new.graph v.lefts.items v.rights.items)) }
         ensures itself { IfOk result (λ stuck. IfSome stuck (λ v. Contains v.lefts.items left)) }
         ensures none { IfOk result (λ stuck. IfSome stuck (λ _. HasNoPlacing self.new.graph)) }
@@ -150,6 +169,7 @@ impl Matching {
         requires unplaced { place_of self.old left ≡ None }
         ensures graph { IsSameGraph self.old self.new }
         ensures placed { OnTrue result (AddsLeft self.old.place self.new.place left) }
+        ensures owners { KeepsOwners self.old.owner self.new.owner }
         ensures unchanged { OnFalse result (self.new ≡ self.old) }
     {
         let row = self.rows.of[left as usize];
@@ -167,6 +187,7 @@ impl Matching {
     pub fn complete(&mut self, alloc: Global) -> Result<Option<Violator>, AllocError>
         ensures graph { IsSameGraph self.old self.new }
         ensures kept { (l : ℕ) → IsSome (place_of self.old l) → IsSome (place_of self.new l) }
+        ensures owners { KeepsOwners self.old.owner self.new.owner }
         ensures placed { IfOk result (λ stuck. IfNone stuck (AllPlaced self.new.place)) }
         ensures violator { IfOk result (λ stuck. IfSome stuck (λ v. IsViolator self.new.graph v.lefts.items v.rights.items)) }
         ensures none { IfOk result (λ stuck. IfSome stuck (λ _. HasNoPlacing self.new.graph)) }
@@ -184,6 +205,7 @@ impl Matching {
         requires { left < length self.old.place }
         ensures graph { IsSameGraph self.old self.new }
         ensures kept { (l : ℕ) → IsSome (place_of self.old l) → IsSome (place_of self.new l) }
+        ensures owners { KeepsOwners self.old.owner self.new.owner }
         ensures placed { IfOk result (λ stuck. IfNone stuck (IsSome (place_of self.new left))) }
         ensures violator { IfOk result (λ stuck. IfSome stuck (λ v. IsViolator self.new.graph v.lefts.items v.rights.items)) }
         ensures none { IfOk result (λ stuck. IfSome stuck (λ _. HasNoPlacing self.new.graph)) }

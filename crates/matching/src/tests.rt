@@ -30,17 +30,6 @@ fn of_four(
 }
 
 #[test]
-fn each_moves_once(rt: HostRuntime) -> Result<(), Fail> {
-    let rows = [0, 1, 2];
-    let pairs = [(0, 0), (1, 0), (1, 1), (2, 1), (2, 2)];
-    let mut matching = of_four(rt.alloc(), &rt, &rows, &pairs)?;
-    assert!(rt; matching.complete(rt.alloc())?.is_none());
-    let answer = matching.answer(rt.alloc())?;
-    assert_eq!(rt; answer.as_slice(), [0, 1, 2].as_slice());
-    Ok(())
-}
-
-#[test]
 fn three_on_two(rt: HostRuntime) -> Result<(), Fail> {
     let rows = [0, 0, 0];
     let pairs = [(0, 3), (0, 1), (0, 3)];

@@ -1,6 +1,6 @@
 use Rattle.std.proofs.Common.{◌≡◌, ◌<◌, rules, length, sym, ◌∙◌, ap, subst, arith}
 use Rattle.std.specs.Prelude.{Contains}
-use Rattle.matching.specs.Bipartite.{State, AddsLeft}
+use Rattle.matching.specs.Bipartite.{State, AddsLeft, KeepsOwners}
 use Rattle.matching.proofs.Counting.{contains_at}
 use Rattle.matching.proofs.Sound.{cursors_sound, owners_within, placed_sound, stuck_violator, violator_bars, whole, first_left}
 use Rattle.matching.proofs.state.Matching.augment.Goals as goal
@@ -46,6 +46,15 @@ returns-in-Some-clause-placed c =
     let old : c.args.self.now.place ≡ m.place.items = ap (λ (x : State). x.place) (sym c.if-take_free.ensures.unchanged ∙ sym c.self.view_is) in
     let adds : AddsLeft m.place.items c.shift.new.place c.args.left = rw begin at (rw c.deref_mut-in-Some.ensures.value at c.shift.ensures.adds) in
     rw (place_is, old) adds
+
+pub returns-in-Some-clause-owners : goal.returns-in-Some-clause-owners
+returns-in-Some-clause-owners c =
+    let m = c.self.inside in
+    let owner_size : length c.shift.new.owner ≡ m.owner.len = omega (arith, c.shift.auto.owner, c.deref_mut-in-Some-2.ensures.len, m.owner.ok) in
+    let owner_is = whole m.owner.len c.shift.new.owner m.owner.items owner_size (search rules) in
+    let old : c.args.self.now.owner ≡ m.owner.items = ap (λ (x : State). x.owner) (sym c.if-take_free.ensures.unchanged ∙ sym c.self.view_is) in
+    let kept : KeepsOwners m.owner.items c.shift.new.owner = rw c.deref_mut-in-Some-2.ensures.value at c.shift.ensures.owners in
+    rw (owner_is, old) kept
 
 pub returns-in-None-clause-violator : goal.returns-in-None-clause-violator
 returns-in-None-clause-violator c =
