@@ -23,7 +23,7 @@ pub fn disjoint_paths(
     requires edges { All (λ edge. (edge.0 < graph.now.nodes) × (edge.1 < graph.now.nodes)) graph.now.edges }
     requires starts { All (λ start. start < graph.now.nodes) starts.now }
     requires ends { All (λ end. end < graph.now.nodes) ends.now }
-    requires few { 2 * graph.now.nodes + length graph.now.edges + length starts.now + length ends.now < 2 ^ 32 }
+    requires few { 2 * graph.now.nodes < 2 ^ 32 }
     ensures flow { IfOk result (IsFlow graph.now.nodes graph.now.edges starts.now ends.now count) }
     ensures no_paths { IfOk result (HasNoPathsAtCut graph.now.edges starts.now ends.now count) }
 {

@@ -1,6 +1,6 @@
 -- The pairs and rows are those of the reduction.
 use Rattle.std.proofs.Common.{arith, ap, inl, refl, length}
-use Rattle.crowd_cuts.proofs.ReductionLemmas.{rows_within, pairs_within, length-pairs_of, length-rows_of, between_from_all, nodes_from_all, reduced}
+use Rattle.crowd_cuts.proofs.ReductionLemmas.{rows_within, pairs_within, length-rows_of, between_from_all, nodes_from_all, reduced}
 use Rattle.crowd_cuts.proofs.placing.unpassed.Goals as goal
 
 pub new-requires-clause-rows : goal.new-requires-clause-rows
