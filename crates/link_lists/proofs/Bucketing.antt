@@ -84,7 +84,8 @@ module _ (span popped : ℕ) (costs : List (Option ℕ)) (next prev : List ℕ) 
       head ≡ length costs + cost % (span + 1) →
       IsBucketed span popped (set costs i (Some cost)) (set (set next i (slice_index next head)) head i) (set (set prev i head) (slice_index next head) i)
   pushed i cost head within free low high is = record {
-    size = rw length-set bucketed.size;
+    few = rw length-set bucketed.few;
+    narrow = bucketed.narrow;
     low = costs_set (λ c. popped ≤ c) costs i (Some cost) (λ c e. (let same : cost ≡ c = cc e in omega arith)) bucketed.low;
     high = costs_set (λ c. c ≤ popped + span) costs i (Some cost) (λ c e. (let same : cost ≡ c = cc e in omega arith)) bucketed.high;
     chains = rw (length-set costs i (Some cost)) (chained (length costs) (length costs + span + 1) (omega arith) next prev
@@ -100,7 +101,8 @@ module _ (span popped : ℕ) (costs : List (Option ℕ)) (next prev : List ℕ) 
   pub taken : (i cost : ℕ) → i < length costs → slice_index_or costs i None ≡ Some cost →
       IsBucketed span popped (set costs i None) (set next (slice_index prev i) (slice_index next i)) (set prev (slice_index next i) (slice_index prev i))
   taken i cost within queued = record {
-    size = rw length-set bucketed.size;
+    few = rw length-set bucketed.few;
+    narrow = bucketed.narrow;
     low = costs_set (λ c. popped ≤ c) costs i None (λ c e. absurd (let bad : ⊥ = cc e in bad)) bucketed.low;
     high = costs_set (λ c. c ≤ popped + span) costs i None (λ c e. absurd (let bad : ⊥ = cc e in bad)) bucketed.high;
     chains = (let none : Option ℕ = None in rw (length-set costs i none) (unchained (length costs) (length costs + span + 1) (omega arith) next prev
@@ -114,14 +116,15 @@ module _ (span popped : ℕ) (costs : List (Option ℕ)) (next prev : List ℕ) 
   pub raised : (cost : ℕ) → popped ≤ cost → ((k c : ℕ) → slice_index_or costs k None ≡ Some c → cost ≤ c) →
       IsBucketed span cost costs next prev
   raised cost above least = record {
-    size = bucketed.size;
+    few = bucketed.few;
+    narrow = bucketed.narrow;
     low = least;
     high = λ k c e. (let old : c ≤ popped + span = bucketed.high k c e in omega arith);
     chains = bucketed.chains;
   }
 
   pub sound : IsSound (record { span = span; popped = popped; costs = costs })
-  sound = record { size = bucketed.size; low = bucketed.low; high = bucketed.high }
+  sound = record { few = bucketed.few; narrow = bucketed.narrow; low = bucketed.low; high = bucketed.high }
 
   -- what the links of a queued item and of a bucket lead to
   pub next_upto : (head b : ℕ) → b ≤ span → head ≡ length costs + b → slice_index next head ≤ length costs
@@ -138,10 +141,10 @@ module _ (span popped : ℕ) (costs : List (Option ℕ)) (next prev : List ℕ) 
       (bucketed.chains.back i (cost % (span + 1)) within (bucket_at-queued (span + 1) costs i cost within queued)).within
 
 -- nothing is queued yet
-pub none_queued : (items span : ℕ) (next prev : List ℕ) → items + span < 2 ^ 32 →
+pub none_queued : (items span : ℕ) (next prev : List ℕ) → items < 2 ^ 32 → span < 2 ^ 32 →
     next ≡ replicate (items + span + 1) items → length prev ≡ items + 1 →
     IsBucketed span 0 (replicate items None) next prev
-none_queued items span next prev size is prev_length =
+none_queued items span next prev few narrow is prev_length =
     let none : Option ℕ = None in
     let nothing : (k : ℕ) → slice_index_or (replicate items none) k None ≡ None = λ k. elim (cases_lt k items) [
       | inl within ↦ get_or-replicate items k none None within
@@ -151,7 +154,8 @@ none_queued items span next prev size is prev_length =
     (let free : bucket_at (span + 1) (replicate items none) k ≡ None =
     bucket_at-free (span + 1) (replicate items none) k (omega (arith, length-replicate items none)) (nothing k) in cc (free, e)) in
     record {
-      size = rw (length-replicate items none) size;
+      few = rw (length-replicate items none) few;
+      narrow = narrow;
       low = λ k c e. omega arith;
       high = λ k c e. absurd (let free : slice_index_or (replicate items none) k None ≡ None = nothing k in let bad : ⊥ = cc (free, e) in bad);
       chains = rw (length-replicate items none) (record {

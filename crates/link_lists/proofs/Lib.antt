@@ -4,3 +4,5 @@ pub mod Stack
 pub mod Shown
 pub mod Chaining
 pub mod Bucketing
+pub mod Words
+pub mod Turning

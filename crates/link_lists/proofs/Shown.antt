@@ -1,14 +1,28 @@
 -- What the links say of the lists.
-use Rattle.std.proofs.Common.{◌≡◌, ◌<◌, ◌≤◌, ◌+◌, ℕ, List, length, arith}
+use Rattle.std.proofs.Common.{◌≡◌, ◌<◌, ◌≤◌, ◌+◌, ◌⊎◌, inl, inr, ℕ, List, length, eqb, refl, sym, ◌∙◌, arith}
 use Rattle.std.specs.Prelude.{slice_index}
 use Rattle.std.specs.List.{Contains}
+use Rattle.std.specs.Set.{is_member}
+use Rattle.std.proofs.lemmas.Bool.{cases_Bool}
+use Rattle.std.proofs.lemmas.Bool.Decides.{Decides-eqb}
+use Rattle.std.proofs.lemmas.List.{get_or_default}
+use Rattle.std.proofs.lemmas.Map.Made.{is_member-Decides}
 use Rattle.link_lists.specs.Members.{Membership, IsLinked, IsFirstFrom, HasNoneFrom, IsSound}
 use Rattle.link_lists.specs.Links.{list_at, IsNearest, IsLinkage}
-use Rattle.link_lists.proofs.Relinking.{list_at-position, list_at-head, from_at-position, from_at-head}
-use Rattle.link_lists.proofs.Stack.{unlinked_once}
+use Rattle.link_lists.proofs.Relinking.{one_nearest, list_at-position, list_at-head, from_at-position, from_at-head}
+use Rattle.link_lists.proofs.Stack.{unlinked_once, not_led_to}
 
 abbrev pub members : ℕ → List ℕ → List ℕ → Membership
 members lists owner unlinked = record { lists = lists; owner = owner; unlinked = unlinked }
+
+-- a number stands in a list or it doesn't
+contains_or_not : (xs : List ℕ) (x : ℕ) → Contains xs x ⊎ (Contains xs x → ⊥)
+contains_or_not xs x =
+    let decides = is_member-Decides Decides-eqb xs x in
+    elim (cases_Bool (is_member eqb xs x)) [
+      | inl yes' ↦ inl (decides.0 yes')
+      | inr no' ↦ inr (λ h. absurd (let bad : ⊥ = cc (decides.1 h, no') in bad))
+    ]
 
 found : (lists : ℕ) (owner unlinked : List ℕ) (list from i : ℕ) → i < length owner →
     IsNearest owner (Contains unlinked) list from i → IsFirstFrom (members lists owner unlinked) list from i
@@ -26,7 +40,8 @@ none lists owner unlinked list from j past least = λ k behind member.
 module _ (lists : ℕ) (owner next prev unlinked : List ℕ) (capacity : ℕ) (linkage : IsLinkage lists owner next prev unlinked capacity) where
   pub sound : IsSound (members lists owner unlinked)
   sound = record {
-    size = linkage.size;
+    few = linkage.few;
+    few_lists = linkage.few_lists;
     owners = linkage.owners;
     within = λ k inside. (linkage.kept k inside).within;
     once = unlinked_once lists owner next prev capacity unlinked linkage;
@@ -52,6 +67,29 @@ module _ (lists : ℕ) (owner next prev unlinked : List ℕ) (capacity : ℕ) (l
   pub first_none : (list head i : ℕ) → list < lists → head ≡ length owner + list → i ≡ slice_index next head → length owner ≤ i →
       HasNoneFrom (members lists owner unlinked) list 0
   first_none list head i inside is_head is past = none lists owner unlinked list 0 i past (rw is (at_first list head inside is_head))
+
+  -- just a linked position is still led to from where it was
+  pub leads_where_linked : (i : ℕ) → IsLinked (members lists owner unlinked) i → slice_index next (slice_index prev i) ≡ i
+  leads_where_linked i linked =
+      let before = linkage.links.back i linked.within linked.linked in
+      one_nearest (linkage.links.onward (slice_index prev i) before.within before.inside) before.least
+
+  pub linked_where_led : (i : ℕ) → i < length owner → slice_index next (slice_index prev i) ≡ i → IsLinked (members lists owner unlinked) i
+  linked_where_led i within leads = record {
+    within = within;
+    linked = λ (k, inside, is).
+        not_led_to lists owner next prev capacity unlinked linkage k (slice_index prev i) i inside (sym (get_or_default unlinked k 0 i inside ∙ is)) refl leads;
+  }
+
+  -- what leads to a position, or led to it when it was unlinked, is a place
+  pub before_within : (i : ℕ) → i < length owner → slice_index prev i < length next
+  before_within i within = elim (contains_or_not unlinked i) [
+    | inl has ↦
+        (let kept = linkage.kept has.0 has.1 in
+        let is : slice_index unlinked has.0 ≡ i = get_or_default unlinked has.0 0 i has.1 ∙ has.2 in
+        omega (arith, rw is at kept.before.within, linkage.links.next_length))
+    | inr live ↦ omega (arith, (linkage.links.back i within live).within, linkage.links.next_length)
+  ]
 
   pub next_found : (i j : ℕ) → IsLinked (members lists owner unlinked) i → j ≡ slice_index next i → j < length owner →
       IsFirstFrom (members lists owner unlinked) (slice_index owner i) (i + 1) j

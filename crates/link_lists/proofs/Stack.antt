@@ -1,5 +1,5 @@
 -- The stack of unlinked positions, and the links that they keep.
-use Rattle.std.proofs.Common.{◌≡◌, ◌<◌, ◌≤◌, ◌+◌, ◌-◌, inl, inr, ℕ, List, [], ◌∷◌, ◌++◌, length, get_or, set, take, eqb, refl, sym, ap, ◌∙◌, subst, arith}
+use Rattle.std.proofs.Common.{◌≡◌, ◌<◌, ◌≤◌, ◌+◌, ◌-◌, ◌⊎◌, inl, inr, ℕ, List, [], ◌∷◌, ◌++◌, length, get_or, set, take, eqb, refl, sym, ap, ◌∙◌, subst, arith}
 use Rattle.std.specs.Prelude.{slice_index}
 use Rattle.std.specs.List.{Contains}
 use Rattle.std.proofs.lemmas.List.{length_push, get_or-set_other, get_or_append_left, get_or_push, take-append-le, take_at, get_or_default, length-take, get_or-take}
@@ -80,7 +80,8 @@ module _ (lists : ℕ) (owner next prev : List ℕ) (capacity : ℕ) where
       rw (list_at-position owner i within, from_at-position owner i within) at
       (linkage.links.onward i (omega (arith, within)) (λ _. live)) in
       record {
-        size = linkage.size;
+        few = linkage.few;
+        few_lists = linkage.few_lists;
         owners = linkage.owners;
         links = unlinks owner (Contains unlinked) (Contains (unlinked ++ i ∷ [])) i within live (Contains-push unlinked i)
             (λ k has. Contains-append_left unlinked (i ∷ []) k has)
@@ -120,7 +121,8 @@ module _ (lists : ℕ) (owner next prev : List ℕ) (capacity : ℕ) where
       let slots : ℕ = length owner + lists in
       let place : KeepsPlace slots owner (Contains before) next prev i = place_of before i linkage in
       record {
-        size = linkage.size;
+        few = linkage.few;
+        few_lists = linkage.few_lists;
         owners = linkage.owners;
         links = relinks owner (Contains before) (Contains (before ++ i ∷ [])) i place.within place.inside (Contains-push before i)
             (λ k has. Contains-append_left before (i ∷ []) k has)
@@ -136,6 +138,40 @@ module _ (lists : ℕ) (owner next prev : List ℕ) (capacity : ℕ) where
             (λ e. place.after.inside (rw e at old.within) (rw e at out)) old);
         room = linkage.room;
       }
+
+  -- an earlier one is out where a later one was unlinked
+  earlier_out : (unlinked : List ℕ) (j k : ℕ) → k < j → j < length unlinked → Contains (take j unlinked) (slice_index unlinked k)
+  earlier_out unlinked j k less inside =
+      let shorter : k < length (take j unlinked) = omega (arith, length-take j unlinked) in
+      subst (Contains (take j unlinked)) (get_or-take j unlinked k 0 less) (Contains-get_or (take j unlinked) k 0 shorter)
+
+  -- nothing leads to an unlinked position from where it was
+  pub not_led_to : (unlinked : List ℕ) → IsLinkage lists owner next prev unlinked capacity → (k s i : ℕ) → k < length unlinked →
+      i ≡ slice_index unlinked k → s ≡ slice_index prev i → slice_index next s ≡ i → ⊥
+  not_led_to unlinked linkage k s i inside i_is s_is leads =
+      let kept : KeepsPlace (length owner + lists) owner (Contains (take k unlinked)) next prev i = rw i_is (linkage.kept k inside) in
+      let before : LeadsTo (length owner + lists) owner (Contains (take k unlinked)) s i = rw s_is kept.before in
+      let out : Contains unlinked i = rw i_is (Contains-get_or unlinked k 0 inside) in
+      let end : i < length owner = kept.within in
+      let live : ((s < length owner) → Contains unlinked s → ⊥) → ⊥ = λ there.
+      (linkage.links.onward s before.within there).inside (omega (arith, leads, end)) (rw leads out) in
+      elim (cases_lt s (length owner)) [
+        | inr head ↦ live (λ position. absurd (omega arith))
+        | inl position ↦ live (λ _ (j, j_in, at). gone j (get_or_default unlinked j 0 s j_in ∙ at) j_in before position (cases_lt j k) (cases_eq j k))
+      ]
+    where
+      gone : (j : ℕ) → slice_index unlinked j ≡ s → j < length unlinked → LeadsTo (length owner + lists) owner (Contains (take k unlinked)) s i →
+          s < length owner → (j < k) ⊎ (k ≤ j) → (j ≡ k) ⊎ (j ≡ k → ⊥) → ⊥
+      gone j is j_in before position (inl less) _ = before.inside position (subst (Contains (take k unlinked)) is (earlier_out unlinked k j less inside))
+      gone j is j_in before position (inr more) (inl same) =
+          let itself : s ≡ i = sym is ∙ ap (λ n. slice_index unlinked n) same ∙ sym i_is in
+          omega (arith, before_least position before.least)
+      gone j is j_in before position (inr more) (inr apart) =
+          let later : k < j = omega arith in
+          let kept = linkage.kept j j_in in
+          let next_is : slice_index next (slice_index unlinked j) ≡ i = ap (λ n. slice_index next n) is ∙ leads in
+          kept.after.inside (omega (arith, next_is, (linkage.kept k inside).within, i_is))
+          (rw next_is (rw i_is (earlier_out unlinked j k later j_in)))
 
 -- what is left of a stack without its last
 pub popped : (unlinked rest before : List ℕ) (i : ℕ) → unlinked ≡ before ++ i ∷ [] → rest ≡ take (length unlinked - 1) unlinked → rest ≡ before

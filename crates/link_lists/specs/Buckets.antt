@@ -1,8 +1,10 @@
 -- The links by which the items of a queue are kept, in one chain for each bucket. A slot is what
 -- leads to an item: slot i, below the number of items, is what follows item i, and slot n + b is
 -- where the chain of bucket b begins, where there are n items. The end of a chain is written as n.
-use Rattle.std.specs.Prelude.{◌≡◌, ◌<◌, ◌≤◌, ◌+◌, ◌-◌, ◌%◌, ◌^◌, ℕ, Bool, true, List, Option, None, Some, length, nat_lt, if◌then◌else◌, slice_index, slice_index_or}
+use Rattle.std.specs.Prelude.{◌≡◌, ◌<◌, ◌≤◌, ◌+◌, ◌-◌, ◌%◌, ◌/◌, ◌^◌, ℕ, Bool, true, List, Option, None, Some, length, nat_lt, if◌then◌else◌, slice_index, slice_index_or}
 use Rattle.std.specs.Option.{option_map}
+use Rattle.std.specs.List.{sum_by}
+use Rattle.link_lists.specs.Bits.{IsIn}
 
 -- the bucket of a slot: of an item that of its cost, where it is queued
 unfoldable pub bucket_at : ℕ → List (Option ℕ) → ℕ → Option ℕ
@@ -37,9 +39,27 @@ pub record AreChains (items slots : ℕ) (at : ℕ → Option ℕ) (next prev : 
   pub back : (i b : ℕ) → i < items → at i ≡ Some b → LeadsBack slots at next i b (slice_index prev i)
   pub grounded : (p : ℕ → Bool) → IsClosed items at prev p → (i : ℕ) → p i ≡ true → ⊥
 
--- what holds of the fields of a queue
+-- what holds of the links of a queue
 pub record IsBucketed (span popped : ℕ) (costs : List (Option ℕ)) (next prev : List ℕ) : Type 0 where
-  pub size : length costs + span < 2 ^ 32
+  pub few : length costs < 2 ^ 32
+  pub narrow : span < 2 ^ 32
   pub low : (i c : ℕ) → slice_index_or costs i None ≡ Some c → popped ≤ c
   pub high : (i c : ℕ) → slice_index_or costs i None ≡ Some c → c ≤ popped + span
   pub chains : AreChains (length costs) (length costs + span + 1) (bucket_at (span + 1) costs) next prev
+
+-- a bucket is in the set exactly where its chain begins with an item
+pub record AreFilled (span items : ℕ) (next words : List ℕ) : Type 0 where
+  pub words_length : length words ≡ span / 64 + 1
+  pub only : (b : ℕ) → IsIn words b → (b ≤ span) × (slice_index next (items + b) < items)
+  pub all : (b : ℕ) → b ≤ span → slice_index next (items + b) < items → IsIn words b
+
+-- 1 for an item that is queued
+abbrev pub weight : Option ℕ → ℕ
+weight None = 0
+weight (Some _) = 1
+
+-- what holds of the fields of a queue
+pub record IsQueue (span popped count : ℕ) (costs : List (Option ℕ)) (next prev words : List ℕ) : Type 0 where
+  pub bucketed : IsBucketed span popped costs next prev
+  pub filled : AreFilled span (length costs) next words
+  pub counted : count ≡ sum_by weight costs

@@ -2,3 +2,4 @@ pub mod Members
 pub mod Links
 pub mod Queued
 pub mod Buckets
+pub mod Bits

@@ -45,7 +45,8 @@ pub record KeepsPlace (slots : ℕ) (owner : List ℕ) (Out : ℕ → Type 0) (n
 -- what holds of the fields of lists: the links are those of the positions that aren't unlinked, an
 -- unlinked one keeps those that it had when it was unlinked, and there is room to unlink all
 pub record IsLinkage (lists : ℕ) (owner next prev unlinked : List ℕ) (capacity : ℕ) : Type 0 where
-  pub size : length owner + lists < 2 ^ 32
+  pub few : length owner < 2 ^ 32
+  pub few_lists : lists < 2 ^ 32
   pub owners : (i : ℕ) → i < length owner → slice_index owner i < lists
   pub links : AreLinks (length owner + lists) owner (Contains unlinked) next prev
   pub kept : (k : ℕ) → k < length unlinked →

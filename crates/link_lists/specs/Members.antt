@@ -1,6 +1,6 @@
 -- What contracts see of lists of positions: which position belongs to which list, and which
 -- positions are unlinked.
-use Rattle.std.specs.Prelude.{◌≡◌, ◌<◌, ◌≤◌, ◌+◌, ◌^◌, ℕ, List, length, slice_index}
+use Rattle.std.specs.Prelude.{◌≡◌, ◌<◌, ◌≤◌, ◌^◌, ℕ, List, length, slice_index}
 use Rattle.std.specs.List.{Contains}
 
 -- how many lists there are, the list of each position, and the unlinked positions, in the order of
@@ -33,7 +33,8 @@ HasNoneFrom m list from = (k : ℕ) → from ≤ k → IsMember m list k → ⊥
 -- what holds of all lists: each owner is one of them, and the unlinked positions are positions, and
 -- none is unlinked twice
 pub record IsSound (m : Membership) : Type 0 where
-  pub size : length m.owner + m.lists < 2 ^ 32
+  pub few : length m.owner < 2 ^ 32
+  pub few_lists : m.lists < 2 ^ 32
   pub owners : (i : ℕ) → i < length m.owner → slice_index m.owner i < m.lists
   pub within : (k : ℕ) → k < length m.unlinked → slice_index m.unlinked k < length m.owner
   pub once : (j k : ℕ) → j < k → k < length m.unlinked → slice_index m.unlinked j ≡ slice_index m.unlinked k → ⊥

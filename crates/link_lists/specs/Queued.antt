@@ -24,6 +24,7 @@ IsEmpty q = (i : ℕ) → cost_of q i ≡ None
 
 -- what holds of all queues: each cost lies in the window
 pub record IsSound (q : Queued) : Type 0 where
-  pub size : length q.costs + q.span < 2 ^ 32
+  pub few : length q.costs < 2 ^ 32
+  pub narrow : q.span < 2 ^ 32
   pub low : (i c : ℕ) → cost_of q i ≡ Some c → q.popped ≤ c
   pub high : (i c : ℕ) → cost_of q i ≡ Some c → c ≤ q.popped + q.span

@@ -1,8 +1,11 @@
 //! Linked lists of numbers over arrays of links, and a queue by cost in buckets that are such lists.
 #![tactic(auto)]
 
+mod bits;
 mod lists;
 mod queue;
+#[cfg(test)]
+mod tests;
 
 pub use lists::Lists;
 pub use queue::BucketQueue;

