@@ -30,10 +30,10 @@ CASES = [
 
 
 def run(case, rounds):
-    """What the program prints, its wall time and its processor time in seconds."""
+    """The first line that the program prints, its wall time and its processor time in seconds."""
     start = time.monotonic()
     child = subprocess.Popen([PROGRAM, *map(str, case), str(rounds)], stdout=subprocess.PIPE, text=True)
-    printed = child.stdout.read().strip()
+    printed = child.stdout.read().splitlines()[0]
     _, status, usage = os.wait4(child.pid, 0)
     took = time.monotonic() - start
     child.returncode = os.waitstatus_to_exitcode(status)

@@ -1,11 +1,11 @@
 -- Blocks by the rows of their kinds, and sites on the right: where they go together, and what a placing or a violator says of blocks and sites.
-use Rattle.std.proofs.Common.{◌≡◌, ◌<◌, ℕ, List, length, get_or, sym, ◌∙◌, ap, subst, arith}
+use Rattle.std.proofs.Common.{◌≡◌, ◌<◌, ℕ, List, length, map, get_or, sym, ◌∙◌, ap, subst, arith}
 use Rattle.std.specs.List.{Contains}
-use Rattle.std.proofs.lemmas.List.{get_or_default}
+use Rattle.std.proofs.lemmas.List.{get_or_default, get_or-map, length-map}
 use Rattle.std.proofs.lemmas.List.Elements.{Contains-get_or}
 use Rattle.matching.specs.Bipartite.{Graph, IsPlacing, HasNoPlacing, IsViolator}
 use Rattle.place_match.specs.Places.{IsFit, IsPlaced, HasNoPlaces, Outnumber}
-use Rattle.place_match.specs.Tables.{AreNumbers, AreLinks, IsLink, ArePairs, IsReduced}
+use Rattle.place_match.specs.Tables.{AreNumbers, AreLinks, IsLink, ArePairs, IsReduced, GoByLinks}
 
 pub reduced : (blocks sites : List ℕ) (fits : List (ℕ × ℕ)) (block_kinds site_kinds rows kinds : List ℕ) (links pairs : List (ℕ × ℕ)) →
     AreNumbers blocks (length blocks) block_kinds rows → AreNumbers sites (length sites) site_kinds kinds → AreLinks block_kinds site_kinds fits (length fits) links →
@@ -47,6 +47,15 @@ reduced blocks sites fits block_kinds site_kinds rows kinds links pairs b s l p 
         let both : get_or fits link.0 (0, 0) ≡ (get_or blocks block 0, get_or sites site 0) =
         ap (λ (m : ℕ). (m, (get_or fits link.0 (0, 0)).1)) first ∙ ap (λ (n : ℕ). (get_or blocks block 0, n)) second in
         (block_in, site_in, subst (Contains fits) both (Contains-get_or fits link.0 (0, 0) link.1))
+
+-- a block goes with each site to which a link leads from its kind
+pub go_by_links : (rows kinds : List ℕ) (links pairs : List (ℕ × ℕ)) → ArePairs kinds links (length links) pairs →
+    GoByLinks (record { rows = rows; pairs = pairs }) rows kinds (map (λ (l : ℕ × ℕ). l.0) links) (map (λ (l : ℕ × ℕ). l.1) links)
+go_by_links rows kinds links pairs p block site link block_in site_in link_in of_block of_site =
+    let inside : link < length links = omega (arith, length-map links (λ (l : ℕ × ℕ). l.0)) in
+    let block_is : (get_or links link (0, 0)).0 ≡ get_or rows block 0 = sym (get_or-map (λ (l : ℕ × ℕ). l.0) links link (0, 0) 0 inside) ∙ of_block in
+    let site_is : get_or kinds site 0 ≡ (get_or links link (0, 0)).1 = sym of_site ∙ get_or-map (λ (l : ℕ × ℕ). l.1) links link (0, 0) 0 inside in
+    (block_in, subst (λ n. Contains {X = ℕ × ℕ} pairs (n, site)) block_is (p.all link site inside site_in site_is))
 
 -- a placing of the left numbers places the blocks
 pub placed : (blocks sites : List ℕ) (fits : List (ℕ × ℕ)) (g : Graph) (places : List ℕ) → IsReduced blocks sites fits g → IsPlacing g places → IsPlaced blocks sites fits places

@@ -1,5 +1,5 @@
 -- Numbers of kinds, chains of sites, and the matching that places blocks: rows by block kind, and the sites that fit each.
-use Rattle.std.specs.Prelude.{◌≡◌, ◌≢◌, ◌⊎◌, ◌<◌, ◌≤◌, ◌+◌, ℕ, List, length, slice_index, slice_index_or}
+use Rattle.std.specs.Prelude.{◌≡◌, ◌≢◌, ◌⊎◌, ◌<◌, ◌≤◌, ◌+◌, ℕ, List, Option, Some, None, length, slice_index, slice_index_or}
 use Rattle.std.specs.List.{Contains}
 use Rattle.matching.specs.Bipartite.{AreApart, Graph, GoTogether}
 use Rattle.place_match.specs.Places.{IsFit}
@@ -57,3 +57,40 @@ pub record IsReduced (blocks sites : List ℕ) (fits : List (ℕ × ℕ)) (g : G
   pub each : length g.rows ≡ length blocks
   pub joined : (block site : ℕ) → IsFit blocks sites fits block site → GoTogether g block site
   pub only : (block site : ℕ) → GoTogether g block site → IsFit blocks sites fits block site
+
+-- links of block kinds and site kinds, chained by the one and by the other
+pub record AreChainedLinks (block_kinds block_first block_next site_kinds site_first site_next : List ℕ) : Type 0 where
+  pub by_block : AreChained block_kinds block_first block_next
+  pub by_site : AreChained site_kinds site_first site_next
+  pub block_within : (k : ℕ) → k < length block_kinds → slice_index block_kinds k < length block_first
+  pub site_within : (k : ℕ) → k < length site_kinds → slice_index site_kinds k < length site_first
+  pub each : length site_kinds ≡ length block_kinds
+
+-- what was reached is a link
+abbrev pub AreReached : ℕ → List (Option ℕ) → Type 0
+AreReached links ways = (k link : ℕ) → slice_index_or ways k None ≡ Some link → link < links
+
+-- for each kind an entry of that kind, or the end of its chain
+pub record AreCursors (kinds : List ℕ) (count : ℕ) (cursor : List ℕ) : Type 0 where
+  pub each : length cursor ≡ count
+  pub here : (kind : ℕ) → kind < count → slice_index cursor kind < length kinds → slice_index kinds (slice_index cursor kind) ≡ kind
+
+-- a block goes with each site to which a link leads from its kind
+abbrev pub GoByLinks : Graph → List ℕ → List ℕ → List ℕ → List ℕ → Type 0
+GoByLinks g blocks sites block_kinds site_kinds =
+    (block site link : ℕ) → block < length blocks → site < length sites → link < length block_kinds → slice_index block_kinds link ≡ slice_index blocks block →
+    slice_index site_kinds link ≡ slice_index sites site → GoTogether g block site
+
+-- the marks of a search through so many kinds of blocks and of sites, and so many links
+pub record IsSearch (block_kinds site_kinds links : ℕ) (blocks_by sites_by : List (Option ℕ)) (reached : List ℕ) : Type 0 where
+  pub blocks : length blocks_by ≡ block_kinds
+  pub sites : length sites_by ≡ site_kinds
+  pub block_links : AreReached links blocks_by
+  pub site_links : AreReached links sites_by
+  pub kinds : (k : ℕ) → k < length reached → slice_index reached k < block_kinds
+  pub begun : 0 < length reached
+
+-- a site of a kind to which a link leads from the block kind
+pub record IsSeat (block_kinds site_kinds sites : List ℕ) (kind site : ℕ) : Type 0 where
+  pub within : site < length sites
+  pub linked : (link : ℕ) × (link < length block_kinds) × (slice_index block_kinds link ≡ kind) × (slice_index site_kinds link ≡ slice_index sites site)

@@ -5,11 +5,14 @@
 
 mod chains;
 mod error;
+mod flow;
 mod links;
 mod numbered;
 mod places;
+mod seats;
 #[cfg(test)]
 mod tests;
+mod ways;
 
 pub use error::PlaceError;
 pub use places::first_places;

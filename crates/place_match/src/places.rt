@@ -1,12 +1,15 @@
-ghost use Rattle.std.specs.Prelude.{◌<◌, ◌+◌, ◌^◌, IfOk, IfErr, length};
+ghost use Rattle.std.specs.Prelude.{◌≡◌, ◌<◌, ◌+◌, ◌^◌, ℕ, All, IfOk, IfErr, None, length, vec_len};
+ghost use Rattle.matching.specs.Bipartite.{State, place_of};
 ghost use Rattle.place_match.specs.Places.{IsPlaced};
 ghost use Rattle.place_match.specs.Answer.{IsRefused, HasNoPlacesAtRefusal};
-ghost use Rattle.place_match.specs.Tables.{IsReduced};
+ghost use Rattle.place_match.specs.Tables.{AreChained, AreChainedLinks, GoByLinks, IsReduced};
 
 use crate::PlaceError;
 use crate::chains::Chains;
+use crate::flow::{Links, counts_of, flow_of};
 use crate::links::links_of;
 use crate::numbered::Numbered;
+use crate::seats::hand_out;
 use matching::Matching;
 use std::alloc::{AllocError, Global};
 
@@ -14,9 +17,10 @@ use std::alloc::{AllocError, Global};
 /// tell the kind of each, and `fits` the pairs of a block's kind and a site's kind that go together;
 /// a pair that is listed twice counts once.
 ///
-/// A free site that fits is taken where there is one, so the time is that of the pairs of a block
-/// kind and a site that fits it. Where there is none, a search moves blocks to other sites, or finds
-/// blocks without room; each search goes at most once through these pairs.
+/// How many blocks of each kind go on sites of each kind is found first, by searches that mark kinds
+/// and not sites; then sites are handed out, and only blocks for which that wasn't enough are searched
+/// for one by one. So the time is that of the pairs of a block kind and a site that fits it, and of a
+/// few searches through the pairs of kinds.
 ///
 /// # Errors
 ///
@@ -65,6 +69,40 @@ fn unplaced(
     let pairs = chains.pairs_of(alloc, links.as_slice())?;
     let row_count = block_kinds.kinds.len() as u32;
     let site_count = sites.len() as u32;
-    let matching = Matching::new(alloc, block_kinds.numbers, row_count, pairs, site_count)?;
+    let rows = Vec::from_slice(alloc, &block_kinds.numbers)?;
+    let mut matching = Matching::new(alloc, rows, row_count, pairs, site_count)?;
+    let kinds = Links::new(
+        alloc,
+        links.as_slice(),
+        block_kinds.kinds.len(),
+        chains.first.len(),
+    )?;
+    begin(alloc, &kinds, &block_kinds.numbers, &chains, &mut matching)?;
     Ok(matching)
+}
+
+/// Puts blocks on sites by kinds, as many as there is room for.
+fn begin(
+    alloc: Global,
+    links: &Links,
+    blocks: &[u32],
+    sites: &Chains,
+    matching: &mut Matching,
+) -> Result<(), AllocError>
+    requires links { AreChainedLinks links.now.by_block.kinds.items links.now.by_block.first.items links.now.by_block.next.items
+        links.now.by_site.kinds.items links.now.by_site.first.items links.now.by_site.next.items }
+    requires blocks { All (λ kind. kind < vec_len links.now.by_block.first) blocks.now }
+    requires few_blocks { length blocks.now < 2 ^ 32 }
+    requires sites { AreChained sites.now.kinds.items sites.now.first.items sites.now.next.items }
+    requires site_kinds { All (λ kind. kind < vec_len sites.now.first) sites.now.kinds.items }
+    requires site_count { vec_len sites.now.first ≡ vec_len links.now.by_site.first }
+    requires rights { length matching.old.owner ≡ vec_len sites.now.kinds }
+    requires few_sites { vec_len sites.now.kinds < 2 ^ 32 }
+    requires unplaced { (block : ℕ) → place_of matching.old block ≡ None }
+    requires joined { GoByLinks matching.old.graph blocks.now sites.now.kinds.items links.now.by_block.kinds.items links.now.by_site.kinds.items }
+    ensures { matching.new.graph ≡ matching.old.graph }
+{
+    let mut room = counts_of(alloc, &sites.kinds, sites.first.len())?;
+    let mut amounts = flow_of(alloc, links, blocks, &mut room)?;
+    hand_out(links, &mut amounts, blocks, sites, matching)
 }

@@ -1,5 +1,5 @@
 //! Asks again and again for first places of blocks on sites, and tells how often there are some. It is
-//! what bench/places times.
+//! what bench/places times. Then it tells what a few small tasks are answered.
 #![tactic(auto)]
 
 ghost use Rattle.std.specs.Prelude.{◌≡◌, ◌<◌, ◌≤◌, IfOk, length};
@@ -84,6 +84,45 @@ fn number(word: Option<String>) -> Result<u32>
     Ok(number)
 }
 
+/// What a small task is answered: the place of each block, or how many blocks and sites a refusal
+/// names.
+fn answer(alloc: Global, blocks: &[u32], sites: &[u32], fits: &[(u32, u32)]) -> Result<String>
+    requires few_blocks { length blocks.now < 1000 }
+    requires few_sites { length sites.now < 1000 }
+{
+    match first_places(alloc, blocks, sites, fits) {
+        Ok(places) => Ok(format!(in alloc; "places {places:?}")?),
+        Err(PlaceError::NoRoom { blocks, sites }) => Ok(format!(in alloc;
+            "no room for {} blocks on {} sites",
+            blocks.len(),
+            sites.len()
+        )?),
+        Err(PlaceError::OutOfMemory) => Err(Error::from(AllocError)),
+    }
+}
+
+/// Prints what small tasks are answered: one block of a kind more than the sites that fit it, as
+/// many, and none; and kinds that share sites, where a pair is listed twice and one names no block.
+fn print_answers(rt: &(impl Print + AllocGlobal)) -> Result<()> {
+    let alloc = rt.alloc();
+    let of_a_kind = [3; 9];
+    let sites = [7; 8];
+    let fits = [(3, 7)];
+    let nine = answer(alloc, &of_a_kind, &sites, &fits)?;
+    println!(rt; "9 blocks of a kind, 8 sites: {nine}")?;
+    let eight = answer(alloc, &of_a_kind[1..], &sites, &fits)?;
+    println!(rt; "8 blocks of a kind, 8 sites: {eight}")?;
+    let none = answer(alloc, &[], &sites, &fits)?;
+    println!(rt; "no blocks, 8 sites: {none}")?;
+    let sites = [50, 50, 70];
+    let fits = [(2, 70), (2, 50), (1, 50), (9, 90), (2, 50)];
+    let shared = answer(alloc, &[2, 1, 1], &sites, &fits)?;
+    println!(rt; "3 blocks of kinds that share 3 sites: {shared}")?;
+    let crowded = answer(alloc, &[2, 1, 1, 1], &sites, &fits)?;
+    println!(rt; "4 blocks of kinds that share 3 sites: {crowded}")?;
+    Ok(())
+}
+
 /// Whether all blocks have places.
 fn has_places(alloc: Global, task: &Task) -> Result<bool> {
     if task.blocks.len() > MOST as usize || task.sites.len() > MOST as usize {
@@ -112,5 +151,5 @@ fn main(rt: HostRuntime) -> Result<()> {
         }
     }
     println!(rt; "{placed} of {rounds} rounds have places")?;
-    Ok(())
+    print_answers(&rt)
 }
