@@ -1,0 +1,11 @@
+mod Members
+mod Spans
+mod Costs
+mod Boards
+mod Fits
+mod Lists
+mod Nets
+mod Sums
+mod Steps
+mod Grids
+mod Draws
