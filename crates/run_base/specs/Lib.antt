@@ -1,0 +1,5 @@
+pub mod Statuses
+pub mod Worlds
+pub mod Stops
+pub mod Prints
+pub mod Outputs

@@ -1,0 +1,2 @@
+pub mod Architectures
+pub mod Valid
