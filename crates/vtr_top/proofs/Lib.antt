@@ -1,7 +1,2 @@
-pub mod Standing
-pub mod Answered
-pub mod Stopped
 pub mod Said
-pub mod Named
-pub mod Graphs
-pub mod Traced
+pub mod Completed

@@ -1,52 +1,64 @@
--- What a run says, from what its command does and what the sink answers.
-use Rattle.std.proofs.Common.{◌≡◌, ◌⊎◌, inl, inr, ℕ, List, refl, sym, ap, ◌∙◌, subst, Option}
-use Rattle.std.specs.Prelude.{codes, Result, Ok, Err, IfOk}
-use Rattle.vtr_top.specs.declared.words.Command.{Command}
-use Rattle.vtr_top.specs.declared.words.Command.TheVariants.{Trace}
-use Rattle.vtr_base.specs.Outside.{Files, Rose, written, WrittenPart}
-use Rattle.vtr_top.specs.declared.status.Status.{Status}
-use Rattle.vtr_top.specs.declared.status.Status.TheVariants as status
-use Rattle.vtr_top.specs.declared.stop.Stop.{Stop}
-use Rattle.vtr_top.specs.declared.stop.Stop.TheVariants.{Refused, Outside, Memory}
-use Rattle.vtr_top.specs.Words.{AreRight, AreCommand}
-use Rattle.vtr_top.specs.Stops.{IsStop, stop_text}
-use Rattle.vtr_top.specs.Says.{Says, SaysStop, Puts, Answers, status_of}
+-- What a run says, from what its words are, what its command does and what the sink answers.
+use Rattle.std.proofs.Common.{◌≡◌, inl, inr, ℕ, zero, suc, List, [], ◌∷◌, length, refl, sym, ap, ◌∙◌, subst, Some}
+use Rattle.std.specs.Prelude.{Result, Ok, Err, IfOk, IfErr, slice_get}
+use Rattle.run_base.specs.declared.status.Status.{Status}
+use Rattle.run_base.specs.declared.status.Status.TheVariants as status
+use Rattle.run_base.specs.Worlds.{World, Shown}
+use Rattle.run_base.specs.declared.answer.Answer.{Answer}
+use Rattle.run_base.specs.declared.stop.Stop.{Stop}
+use Rattle.run_base.specs.Prints.{Puts, memory_text, SaysOf, IsSaidOf}
+use Rattle.run_words.specs.declared.shape.Shape.{Shape}
+use Rattle.run_words.specs.Commands.{IsCommand}
+use Rattle.vtr_top.specs.declared.table.Task.{Task}
+use Rattle.vtr_top.specs.Table.{IsTable, IsTaskOf}
+use Rattle.vtr_top.specs.Says.{Says, SaysTask, Answers}
 
-pub says_stop : (words : List (List ℕ)) (files : Option Files) (a b : ℕ) (arch block prog : List ℕ) (s : Stop) (text : List ℕ) →
-    AreRight words arch block prog → IsStop files a b arch block prog s → text ≡ stop_text s → Says words files a b (status_of s) text
-says_stop words files a b arch block prog (Refused name refusal) text right cause line = record {
-  arch = arch;
-  block = block;
-  prog = prog;
-  right = right;
-  why = Refused name refusal;
-  cause = cause;
-  is = refl;
-  line = line;
-}
-says_stop words files a b arch block prog (Outside name) text right cause line = record {
-  arch = arch;
-  block = block;
-  prog = prog;
-  right = right;
-  why = Outside name;
-  cause = cause;
-  is = refl;
-  line = line;
-}
-says_stop words files a b arch block prog Memory text right cause line = line
+-- each command of the table has three plain words
+pub three_words : (table : List Shape) (words : List (List ℕ)) (row : ℕ) (options plain : List (List ℕ)) → IsTable table → IsCommand table words row options plain →
+    length plain ≡ 3
+three_words [] words row options plain is command = absurd is
+three_words (t ∷ []) words row options plain is command = by_row row command.is_row.is
+  where
+    by_row : (row : ℕ) → slice_get (t ∷ []) row ≡ Some command.shape → length plain ≡ 3
+    by_row zero there =
+        let same : t ≡ command.shape = from_some there in
+        command.all ∙ ap (λ (s : Shape). length s.words.now) (sym same) ∙ ap length is.are_kinds
+      where
+        from_some : {X : Type 0} {x y : X} → Some x ≡ Some y → x ≡ y
+        from_some e = cc
+    by_row (suc n) there = cc
+three_words (t ∷ u ∷ rest) words row options plain is command = absurd is
 
-pub answered : (words : List (List ℕ)) (files : Option Files) (a b c d : ℕ) (old new : Option (List ℕ)) (s : Status) (text : List ℕ) (result : Status) →
-    Says words files a b s text → Puts c d old new text s result → Answers words files a b c d old new result
-answered words files a b c d old new s text result says (inl whole) =
-    inl (record { text = text; says = subst (λ t. Says words files a b t text) (sym whole.0) says; got = whole.1 })
-answered words files a b c d old new s text result says (inr part) =
-    inr (part.0, part.1, record { meant = s; text = text; says = says; got = part.2 })
+pub says_task : {A E : Type 0} (status_in : A → Status) (text_in : A → List ℕ) (words : List (List ℕ)) (w : World) (task : Task) (table : List Shape) (row : ℕ)
+    (options plain : List (List ℕ)) (r : Result A E) → IsTable table → IsCommand table words row options plain → IsTaskOf plain task →
+    IfOk r (λ a. SaysTask task w (status_in a) (text_in a)) → IfOk r (λ a. Says words w (status_in a) (text_in a))
+says_task status_in text_in words w task table row options plain (Ok a) is_table command is says = inl (record {
+  task = task;
+  are = record { table = table; is_table = is_table; row = row; options = options; plain = plain; command = command; is = is };
+  says = says;
+})
+says_task status_in text_in words w task table row options plain (Err e) is_table command is says = tt
 
--- the answer of a command that ended before its own
-pub says_stopped : {A E : Type 0} (status : A → Status) (text : A → List ℕ) (words : List (List ℕ)) (files : Option Files) (a b : ℕ) (arch block prog : List ℕ) (s : Stop)
-    (r : Result A E) → AreRight words arch block prog → IsStop files a b arch block prog s → IfOk r (λ x. status x ≡ status_of s) → IfOk r (λ x. text x ≡ stop_text s) →
-    IfOk r (λ x. Says words files a b (status x) (text x))
-says_stopped status text words files a b arch block prog s (Ok x) right cause same line =
-    subst (λ t. Says words files a b t (text x)) (sym same) (says_stop words files a b arch block prog s (text x) right cause line)
-says_stopped status text words files a b arch block prog s (Err e) right cause same line = tt
+pub answered : (words : List (List ℕ)) (w : World) (shown : Shown) (s : Status) (text : List ℕ) (result : Status) → Says words w s text →
+    Puts shown text s result → Answers words w shown result
+answered words w shown s text result says (inl whole) =
+    inl (record { text = text; says = subst (λ t. Says words w t text) (sym whole.0) says; got = whole.1 })
+answered words w shown s text result says (inr part) =
+    inr (record { outside = part.0; failed = part.1; meant = s; text = text; says = says; got = part.2 })
+
+pub answered_by : (words : List (List ℕ)) (w : World) (shown : Shown) (s : Status) (text put : List ℕ) (result : Status) → put ≡ text → Says words w s text →
+    Puts shown put s result → Answers words w shown result
+answered_by words w shown s text put result same says puts = answered words w shown s text result says (subst (λ (t : List ℕ). Puts shown t s result) same puts)
+
+pub answered_memory : (words : List (List ℕ)) (w : World) (shown : Shown) (text : List ℕ) (result : Status) → text ≡ memory_text →
+    Puts shown text status.Memory result → Answers words w shown result
+answered_memory words w shown text result is puts = answered words w shown status.Memory text result (inr (inr (record { is = refl; line = is }))) puts
+
+-- what is said of an outcome with these causes
+pub said_of : {E : Type 0} (Answered : Status → List ℕ → Type 0) (Stops : Stop → Type 0) (outcome : Result Answer Stop) (r : Result Answer E) →
+    IfOk outcome (λ a. Answered a.status a.text.items) → IfErr outcome Stops → IfOk r (IsSaidOf outcome) →
+    IfOk r (λ a. SaysOf Answered Stops a.status a.text.items)
+said_of Answered Stops (Ok a) (Ok b) answers stops is =
+    inl (subst (λ s. Answered s b.text.items) (sym is.0) (subst (λ t. Answered a.status t) (sym is.1) answers))
+said_of Answered Stops (Err e) (Ok b) answers stops is = inr (record { why = e; cause = stops; is = is.0; line = is.1 })
+said_of Answered Stops outcome (Err e) answers stops is = tt

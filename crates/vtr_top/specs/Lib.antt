@@ -1,6 +1,3 @@
-pub mod Words
-pub mod Lines
-pub mod Inputs
-pub mod Refusals
-pub mod Stops
+pub mod Table
 pub mod Says
+pub mod Valid

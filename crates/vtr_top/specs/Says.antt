@@ -1,83 +1,61 @@
 -- What a run says: its status with its cause, and what the sink got.
-use Rattle.std.specs.Prelude.{◌≡◌, ◌+◌, ◌⊎◌, ℕ, List, [], ◌∷◌, ◌++◌, Option, codes}
-use Rattle.std.specs.Fmt.{decimal}
-use Rattle.vtr_base.specs.Outside.{Files, Rose, written, WrittenPart}
-use Rattle.vtr_top.specs.declared.status.Status.{Status}
-use Rattle.vtr_top.specs.declared.status.Status.TheVariants as status
-use Rattle.vtr_top.specs.declared.stop.Stop.{Stop}
-use Rattle.vtr_top.specs.declared.stop.Stop.TheVariants as stop
-use Rattle.vtr_top.specs.Words.{AreRight, IsFirstWrong}
-use Rattle.vtr_top.specs.Inputs.{IsTraced}
-use Rattle.vtr_top.specs.Stops.{IsStop, stop_text}
+use Rattle.std.specs.Prelude.{◌≡◌, ◌⊎◌, ℕ, List}
+use Rattle.vtr_base.specs.Outside.{written, WrittenPart}
+use Rattle.run_base.specs.declared.status.Status.{Status}
+use Rattle.run_base.specs.declared.status.Status.TheVariants as status
+use Rattle.run_base.specs.Worlds.{World, Shown, SinkFailed}
+use Rattle.run_base.specs.Prints.{SaysOf, words_text, memory_text}
+use Rattle.run_words.specs.declared.shape.Shape.{Shape}
+use Rattle.run_words.specs.Commands.{IsFirstWrong}
+use Rattle.cmd_trace.specs.Trace.{AnswersTrace, StopsTrace}
+use Rattle.vtr_top.specs.declared.table.Task.{Task}
+use Rattle.vtr_top.specs.declared.table.Task.TheVariants.{Trace}
+use Rattle.vtr_top.specs.Table.{IsTable, AreWordsOf}
 
-abbrev pub status_of : Stop → Status
-status_of (stop.Refused name refusal) = status.Refused
-status_of (stop.Outside name) = status.Outside
-status_of stop.Memory = status.Memory
-
--- the exit status
-abbrev pub code_of : Status → ℕ
-code_of status.Done = 0
-code_of status.Words = 2
-code_of status.Refused = 3
-code_of status.Outside = 4
-code_of status.Memory = 5
-
--- the words are no command, and the line names the first place at which they aren't
-pub record SaysWords (words : List (List ℕ)) (text : List ℕ) : Type 0 where
+-- the words are no command, and the line names the first that can't stand
+pub record SaysWords (words : List (List ℕ)) (s : Status) (text : List ℕ) : Type 0 where
+  pub table : List Shape
+  pub is_table : IsTable table
   pub place : ℕ
-  pub wrong : IsFirstWrong words place
-  pub line : text ≡ codes "words " ++ (decimal (place + 1) ++ 10 ∷ [])
+  pub wrong : IsFirstWrong table words place
+  pub is : s ≡ status.Words
+  pub line : text ≡ words_text place
 
--- the command is done, and the text is what it prints
-pub record SaysDone (words : List (List ℕ)) (files : Option Files) (text : List ℕ) : Type 0 where
-  pub arch : List ℕ
-  pub block : List ℕ
-  pub prog : List ℕ
-  pub right : AreRight words arch block prog
-  pub traced : IsTraced files arch block prog text
+-- what a command says: its answer, or why it stopped
+abbrev pub SaysTask : Task → World → Status → List ℕ → Type 0
+SaysTask (Trace arch block prog) w s text =
+    SaysOf (AnswersTrace w arch.now block.now prog.now) (StopsTrace w arch.now block.now prog.now) s text
 
--- the command ended before its answer, and the text says why
-pub record SaysStop (words : List (List ℕ)) (files : Option Files) (before after : ℕ) (s : Status) (text : List ℕ) : Type 0 where
-  pub arch : List ℕ
-  pub block : List ℕ
-  pub prog : List ℕ
-  pub right : AreRight words arch block prog
-  pub why : Stop
-  pub cause : IsStop files before after arch block prog why
-  pub is : s ≡ status_of why
-  pub line : text ≡ stop_text why
+-- the words are a command, and this is what it says
+pub record SaysCommand (words : List (List ℕ)) (w : World) (s : Status) (text : List ℕ) : Type 0 where
+  pub task : Task
+  pub are : AreWordsOf words task
+  pub says : SaysTask task w s text
+
+-- memory ran out, which may come at any words
+pub record SaysMemory (s : Status) (text : List ℕ) : Type 0 where
+  pub is : s ≡ status.Memory
+  pub line : text ≡ memory_text
 
 -- the status has its cause, and this is the text that goes with it
-abbrev pub Says : List (List ℕ) → Option Files → ℕ → ℕ → Status → List ℕ → Type 0
-Says words files before after status.Done text = SaysDone words files text
-Says words files before after status.Words text = SaysWords words text
-Says words files before after status.Refused text = SaysStop words files before after status.Refused text
-Says words files before after status.Outside text = SaysStop words files before after status.Outside text
-Says words files before after status.Memory text = text ≡ codes "memory\n"
+abbrev pub Says : List (List ℕ) → World → Status → List ℕ → Type 0
+Says words w s text = SaysCommand words w s text ⊎ (SaysWords words s text ⊎ SaysMemory s text)
 
 -- the sink took the whole text
-pub record Printed (words : List (List ℕ)) (files : Option Files) (before after : ℕ) (s : Status) (old new : Option (List ℕ)) : Type 0 where
+pub record Printed (words : List (List ℕ)) (w : World) (shown : Shown) (s : Status) : Type 0 where
   pub text : List ℕ
-  pub says : Says words files before after s text
-  pub got : new ≡ written text old
+  pub says : Says words w s text
+  pub got : shown.got ≡ written text shown.bytes
 
--- the sink failed at the text of some status, and has a front of it
-pub record CutOff (words : List (List ℕ)) (files : Option Files) (before after : ℕ) (old new : Option (List ℕ)) : Type 0 where
+-- the sink's count of faults rose at the text of some status, and it has a front of the text
+pub record CutOff (words : List (List ℕ)) (w : World) (shown : Shown) (s : Status) : Type 0 where
+  pub outside : s ≡ status.Outside
+  pub failed : SinkFailed shown
   pub meant : Status
   pub text : List ℕ
-  pub says : Says words files before after meant text
-  pub got : WrittenPart text old new
+  pub says : Says words w meant text
+  pub got : WrittenPart text shown.bytes shown.got
 
--- what a run answers: the whole text of its status, or `Outside` where the sink's count of faults
--- rose, and then a front of what was to be printed
-abbrev pub Answers : List (List ℕ) → Option Files → ℕ → ℕ → ℕ → ℕ → Option (List ℕ) → Option (List ℕ) → Status → Type 0
-Answers words files before after sink_before sink_after old new s =
-    Printed words files before after s old new
-    ⊎ ((s ≡ status.Outside) × Rose sink_before sink_after × CutOff words files before after old new)
-
--- what a put of a status's text answers
-abbrev pub Puts : ℕ → ℕ → Option (List ℕ) → Option (List ℕ) → List ℕ → Status → Status → Type 0
-Puts sink_before sink_after old new text s result =
-    ((result ≡ s) × (new ≡ written text old))
-    ⊎ ((result ≡ status.Outside) × Rose sink_before sink_after × WrittenPart text old new)
+-- what a run answers
+abbrev pub Answers : List (List ℕ) → World → Shown → Status → Type 0
+Answers words w shown s = Printed words w shown s ⊎ CutOff words w shown s

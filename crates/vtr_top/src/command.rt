@@ -1,80 +1,72 @@
 ghost use Rattle.std.specs.Prelude.{◌≡◌, IfOk, map, string_bytes};
-ghost use Rattle.vtr_top.specs.Stops.{stop_text};
-ghost use Rattle.vtr_top.specs.Says.{Says, Puts, Answers, status_of};
+ghost use Rattle.run_base.specs.Worlds.{world, shown};
+ghost use Rattle.run_base.specs.Prints.{SaysOf};
+ghost use Rattle.cmd_trace.specs.Trace.{AnswersTrace, StopsTrace};
+ghost use Rattle.cmd_trace.specs.Valid.{IsValid};
+ghost use Rattle.vtr_top.specs.Says.{Says, SaysTask, Answers};
+ghost use Rattle.vtr_top.specs.Valid.{IsValidRun, IsValidTask, IsDoneOrMemory, Completes};
 
-use crate::Status;
-use crate::print::{memory_line, stop_line, words_line};
-use crate::stop::Stop;
-use crate::trace::trace;
-use crate::words::{Command, read_words};
+use crate::table::{Task, table, task_of};
+use cmd_trace::trace;
+use run_base::{Answer, Status, memory_line, print, said, words_line};
+use run_words::{WordsError, read_words};
 use std::alloc::{AllocError, Global};
 use vtr_base::{Shelf, Sink};
-
-/// A status, and the text that goes with it.
-#[derive(Drop)]
-struct Answer {
-    status: Status,
-    text: Vec<u8>,
-}
 
 /// Runs one command: reads its words, fetches and reads its files in turn, and prints its answer.
 /// The exit status of the process is the status's code.
 pub fn run<S: Shelf, K: Sink>(alloc: Global, words: &[String], shelf: &mut S, out: &mut K) -> Status
-    ensures answers { Answers (map string_bytes words.now) (S.files shelf.old) (S.faults shelf.old) (S.faults shelf.new) (K.faults out.old) (K.faults out.new) (K.bytes out.old) (K.bytes out.new) result }
+    ensures answers { let w = world (S.files shelf.old) (S.faults shelf.old) (S.faults shelf.new) in Answers (map string_bytes words.now) w (shown (K.bytes out.old) (K.bytes out.new) (K.faults out.old) (K.faults out.new)) result }
     ensures held { S.files shelf.new ≡ S.files shelf.old }
+    ensures complete { let w = world (S.files shelf.old) (S.faults shelf.old) (S.faults shelf.new) in IsValidRun (map string_bytes words.now) w → Completes (shown (K.bytes out.old) (K.bytes out.new) (K.faults out.old) (K.faults out.new)) result }
     ensures beside { K.beside out.new ≡ K.beside out.old }
 {
     match answer_of(alloc, words, shelf) {
-        Ok(Answer { status, text }) => say(out, text.as_slice(), status),
-        Err(_) => say(out, memory_line(), Status::Memory),
+        Ok(Answer { status, text }) => print(out, text.as_slice(), status),
+        Err(_) => print(out, memory_line(), Status::Memory),
     }
 }
 
-/// The status and the text of a command, without printing it.
+/// The status and the text of the words, without printing it.
 fn answer_of<S: Shelf>(alloc: Global, words: &[String], shelf: &mut S) -> Result<Answer, AllocError>
-    ensures says { IfOk result (λ a. Says (map string_bytes words.now) (S.files shelf.old) (S.faults shelf.old) (S.faults shelf.new) a.status a.text.items) }
+    ensures says { let w = world (S.files shelf.old) (S.faults shelf.old) (S.faults shelf.new) in IfOk result (λ a. Says (map string_bytes words.now) w a.status a.text.items) }
+    ensures complete { let w = world (S.files shelf.old) (S.faults shelf.old) (S.faults shelf.new) in IsValidRun (map string_bytes words.now) w → IfOk result (λ a. IsDoneOrMemory a.status) }
     ensures held { S.files shelf.new ≡ S.files shelf.old }
 {
-    match read_words(words) {
-        Ok(Command::Trace { arch, block, prog }) => match trace(alloc, arch, block, prog, shelf) {
-            Ok(text) => Ok(Answer {
-                status: Status::Done,
-                text,
-            }),
-            Err(stop) => {
-                let Answer { status, text } = stopped(alloc, stop)?;
-                Ok(Answer { status, text })
-            }
-        },
-        Err(place) => {
+    let table = table();
+    match read_words(alloc, &table, words) {
+        Ok(command) => do_task(alloc, &task_of(command.plain.as_slice()), shelf),
+        Err(WordsError::Wrong { place }) => {
             let text = words_line(alloc, place)?;
-            Ok(Answer {
-                status: Status::Words,
-                text,
-            })
+            let status = Status::Words;
+            Ok(Answer { status, text })
         }
+        Err(WordsError::OutOfMemory) => Err(AllocError),
     }
 }
 
-/// The answer of a command that ended before its own.
-fn stopped(alloc: Global, stop: Stop) -> Result<Answer, AllocError>
-    ensures status { IfOk result (λ a. a.status ≡ status_of stop) }
-    ensures line { IfOk result (λ a. a.text.items ≡ stop_text stop) }
+/// The status and the text of a task.
+fn do_task<S: Shelf>(alloc: Global, task: &Task<'_>, shelf: &mut S) -> Result<Answer, AllocError>
+    ensures says { let w = world (S.files shelf.old) (S.faults shelf.old) (S.faults shelf.new) in IfOk result (λ a. SaysTask task.now w a.status a.text.items) }
+    ensures complete { let w = world (S.files shelf.old) (S.faults shelf.old) (S.faults shelf.new) in IsValidTask task.now w → IfOk result (λ a. IsDoneOrMemory a.status) }
+    ensures held { S.files shelf.new ≡ S.files shelf.old }
 {
-    let text = stop_line(alloc, &stop)?;
-    Ok(Answer {
-        status: stop.status(),
-        text,
-    })
+    match task {
+        Task::Trace { arch, block, prog } => do_trace(alloc, arch, block, prog, shelf),
+    }
 }
 
-/// Prints the text of a status.
-fn say<K: Sink>(out: &mut K, text: &[u8], status: Status) -> Status
-    ensures puts { Puts (K.faults out.old) (K.faults out.new) (K.bytes out.old) (K.bytes out.new) text.now status result }
-    ensures beside { K.beside out.new ≡ K.beside out.old }
+/// The status and the text of `trace`.
+fn do_trace<S: Shelf>(
+    alloc: Global,
+    arch: &str,
+    block: &str,
+    prog: &str,
+    shelf: &mut S,
+) -> Result<Answer, AllocError>
+    ensures says { let w = world (S.files shelf.old) (S.faults shelf.old) (S.faults shelf.new) in IfOk result (λ a. SaysOf (AnswersTrace w arch.now block.now prog.now) (StopsTrace w arch.now block.now prog.now) a.status a.text.items) }
+    ensures complete { let w = world (S.files shelf.old) (S.faults shelf.old) (S.faults shelf.new) in IsValid w arch.now block.now prog.now → IfOk result (λ a. IsDoneOrMemory a.status) }
+    ensures held { S.files shelf.new ≡ S.files shelf.old }
 {
-    match out.put(text) {
-        Ok(()) => status,
-        Err(_) => Status::Outside,
-    }
+    said(alloc, trace(alloc, arch, block, prog, shelf))
 }

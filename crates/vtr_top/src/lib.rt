@@ -1,20 +1,8 @@
-//! The commands of the program: their words, their inputs in turn, and what they print.
+//! The commands of the program: which one the words are, what it does, and what is printed of it.
 #![tactic(auto)]
 
 mod command;
-mod fetch;
-mod lines;
-mod print;
-mod refusal;
-mod status;
-mod stop;
-#[cfg(test)]
-mod tests;
-#[cfg(test)]
-mod tiny;
-mod trace;
-mod words;
+mod table;
 
 pub use command::run;
-pub use print::memory_line;
-pub use status::Status;
+pub use run_base::{Status, memory_line};

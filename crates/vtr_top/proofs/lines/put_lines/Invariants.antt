@@ -1,5 +1,0 @@
-use Rattle.vtr_top.proofs.Answered.{IsAnswering}
-use Rattle.vtr_top.proofs.lines.put_lines.Given as goal
-
-abbrev pub invariant-loop-pin : goal.invariant-loop-pin
-invariant-loop-pin l = IsAnswering l.graph l.prog l.pin l.text.items l.met
