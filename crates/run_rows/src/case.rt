@@ -1,0 +1,38 @@
+use std::alloc::{AllocError, Global};
+use std::collections::BTreeMap;
+
+/// One run of a command: what it is given, and what it must answer.
+#[derive(Drop)]
+pub struct Case {
+    pub name: String,
+    /// The line of the stored cases at which the case begins.
+    pub line: u64,
+    pub words: Vec<String>,
+    pub files: BTreeMap<String, Vec<u8>>,
+    /// The numbers of the shelf's calls that fail, from 0.
+    pub shelf_fails: Vec<u64>,
+    /// The numbers of the sink's calls that fail, from 0.
+    pub sink_fails: Vec<u64>,
+    /// The exit status that is wanted.
+    pub status: u8,
+    /// What is to be printed.
+    pub printed: Vec<u8>,
+    /// The files that are to be written, or changed. Every other file is to stay as it was.
+    pub written: BTreeMap<String, Vec<u8>>,
+}
+
+impl Case {
+    pub fn new(alloc: Global, name: &str, line: u64) -> Result<Case, AllocError> {
+        Ok(Case {
+            name: String::from_str(alloc, name)?,
+            line,
+            words: Vec::new(alloc),
+            files: BTreeMap::new(alloc),
+            shelf_fails: Vec::new(alloc),
+            sink_fails: Vec::new(alloc),
+            status: 0,
+            printed: Vec::new(alloc),
+            written: BTreeMap::new(alloc),
+        })
+    }
+}
