@@ -1,12 +1,12 @@
 -- The items of a queue in their buckets: what a push, a pop and a search for the least leave.
 use Rattle.std.proofs.Common.{◌≡◌, ◌<◌, ◌≤◌, ◌+◌, ◌-◌, ◌%◌, ◌^◌, inl, inr, ℕ, List, Option, Some, None, length, set, replicate, refl, sym, ap, ◌∙◌, subst, arith}
-use Rattle.std.specs.Prelude.{slice_index, slice_index_or, IsSome}
+use Rattle.std.specs.Prelude.{slice_index, slice_index_or}
 use Rattle.std.specs.Option.{option_map}
 use Rattle.std.proofs.lemmas.List.{length-set, length-replicate, get_or-set_same, get_or-set_other, get_or-replicate, get_or_past}
 use Rattle.std.proofs.lemmas.Bool.{cases_eq, cases_lt, cond-true, cond-false, lt-ltb, le-ltb}
 use Rattle.std.proofs.lemmas.Nat.{mod_below}
 use Rattle.std.proofs.Math.Nat.{mod-add-mod, add-mod_right, mod-eq_of_lt}
-use Rattle.link_lists.specs.Queued.{IsLeast, IsEmpty, IsSound}
+use Rattle.link_lists.specs.Queued.{IsLeast, IsEmpty, IsSoundQueue}
 use Rattle.link_lists.specs.Buckets.{bucket_at, LeadsOn, IsBucketed}
 use Rattle.link_lists.proofs.Chaining.{none_in, chained, unchained}
 
@@ -75,10 +75,6 @@ next_bucket x span bucket next is on around =
           around last ∙ sym zero_is ∙ sum)
     ]
 
-pub some_cost : (o : Option ℕ) → IsSome o → (c : ℕ) × (o ≡ Some c)
-some_cost None h = absurd (let bad : ⊥ = cc h in bad)
-some_cost (Some c) h = (c, refl)
-
 module _ (span popped : ℕ) (costs : List (Option ℕ)) (next prev : List ℕ) (bucketed : IsBucketed span popped costs next prev) where
   pub pushed : (i cost head : ℕ) → i < length costs → slice_index_or costs i None ≡ None → popped ≤ cost → cost ≤ popped + span →
       head ≡ length costs + cost % (span + 1) →
@@ -123,7 +119,7 @@ module _ (span popped : ℕ) (costs : List (Option ℕ)) (next prev : List ℕ) 
     chains = bucketed.chains;
   }
 
-  pub sound : IsSound (record { span = span; popped = popped; costs = costs })
+  pub sound : IsSoundQueue (record { span = span; popped = popped; costs = costs })
   sound = record { few = bucketed.few; narrow = bucketed.narrow; low = bucketed.low; high = bucketed.high }
 
   -- what the links of a queued item and of a bucket lead to
@@ -135,10 +131,6 @@ module _ (span popped : ℕ) (costs : List (Option ℕ)) (next prev : List ℕ) 
   pub item_next_upto : (i cost : ℕ) → i < length costs → slice_index_or costs i None ≡ Some cost → slice_index next i ≤ length costs
   item_next_upto i cost within queued =
       (bucketed.chains.onward i (cost % (span + 1)) (omega arith) (bucket_at-queued (span + 1) costs i cost within queued)).upto
-
-  pub item_prev_within : (i cost : ℕ) → i < length costs → slice_index_or costs i None ≡ Some cost → slice_index prev i < length costs + span + 1
-  item_prev_within i cost within queued =
-      (bucketed.chains.back i (cost % (span + 1)) within (bucket_at-queued (span + 1) costs i cost within queued)).within
 
 -- nothing is queued yet
 pub none_queued : (items span : ℕ) (next prev : List ℕ) → items < 2 ^ 32 → span < 2 ^ 32 →

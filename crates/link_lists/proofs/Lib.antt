@@ -6,3 +6,6 @@ pub mod Chaining
 pub mod Bucketing
 pub mod Words
 pub mod Turning
+pub mod Arrays
+pub mod Reading
+pub mod Queueing

@@ -7,7 +7,7 @@ use Rattle.std.proofs.lemmas.Bool.{cases_Bool}
 use Rattle.std.proofs.lemmas.Bool.Decides.{Decides-eqb}
 use Rattle.std.proofs.lemmas.List.{get_or_default}
 use Rattle.std.proofs.lemmas.Map.Made.{is_member-Decides}
-use Rattle.link_lists.specs.Members.{Membership, IsLinked, IsFirstFrom, HasNoneFrom, IsSound}
+use Rattle.link_lists.specs.Members.{Membership, IsLinked, IsFirstFrom, HasNoneFrom, IsSoundMembership}
 use Rattle.link_lists.specs.Links.{list_at, IsNearest, IsLinkage}
 use Rattle.link_lists.proofs.Relinking.{one_nearest, list_at-position, list_at-head, from_at-position, from_at-head}
 use Rattle.link_lists.proofs.Stack.{unlinked_once, not_led_to}
@@ -16,7 +16,7 @@ abbrev pub members : ℕ → List ℕ → List ℕ → Membership
 members lists owner unlinked = record { lists = lists; owner = owner; unlinked = unlinked }
 
 -- a number stands in a list or it doesn't
-contains_or_not : (xs : List ℕ) (x : ℕ) → Contains xs x ⊎ (Contains xs x → ⊥)
+pub contains_or_not : (xs : List ℕ) (x : ℕ) → Contains xs x ⊎ (Contains xs x → ⊥)
 contains_or_not xs x =
     let decides = is_member-Decides Decides-eqb xs x in
     elim (cases_Bool (is_member eqb xs x)) [
@@ -38,7 +38,7 @@ none lists owner unlinked list from j past least = λ k behind member.
     least.least k behind (omega (arith, member.linked.within)) member.owned member.linked.linked
 
 module _ (lists : ℕ) (owner next prev unlinked : List ℕ) (capacity : ℕ) (linkage : IsLinkage lists owner next prev unlinked capacity) where
-  pub sound : IsSound (members lists owner unlinked)
+  pub sound : IsSoundMembership (members lists owner unlinked)
   sound = record {
     few = linkage.few;
     few_lists = linkage.few_lists;
@@ -80,16 +80,6 @@ module _ (lists : ℕ) (owner next prev unlinked : List ℕ) (capacity : ℕ) (l
     linked = λ (k, inside, is).
         not_led_to lists owner next prev capacity unlinked linkage k (slice_index prev i) i inside (sym (get_or_default unlinked k 0 i inside ∙ is)) refl leads;
   }
-
-  -- what leads to a position, or led to it when it was unlinked, is a place
-  pub before_within : (i : ℕ) → i < length owner → slice_index prev i < length next
-  before_within i within = elim (contains_or_not unlinked i) [
-    | inl has ↦
-        (let kept = linkage.kept has.0 has.1 in
-        let is : slice_index unlinked has.0 ≡ i = get_or_default unlinked has.0 0 i has.1 ∙ has.2 in
-        omega (arith, rw is at kept.before.within, linkage.links.next_length))
-    | inr live ↦ omega (arith, (linkage.links.back i within live).within, linkage.links.next_length)
-  ]
 
   pub next_found : (i j : ℕ) → IsLinked (members lists owner unlinked) i → j ≡ slice_index next i → j < length owner →
       IsFirstFrom (members lists owner unlinked) (slice_index owner i) (i + 1) j

@@ -188,9 +188,6 @@ module _ (span popped : ℕ) (costs : List (Option ℕ)) (next prev words : List
       ]
 
   module _ (from bucket head : ℕ) (is : from ≡ popped % (span + 1)) (around : IsNextAround words from bucket) (is_head : head ≡ length costs + bucket) where
-    pub head_within : head < length next
-    head_within = omega (arith, (filled.only bucket around.member).0, bucketed.chains.next_length)
-
     pub first_is_least : (cost : ℕ) → slice_index_or costs (slice_index next head) None ≡ Some cost →
         IsLeast (record { span = span; popped = popped; costs = costs }) (slice_index next head) cost
     first_is_least cost queued = let turn = steps from bucket is around in

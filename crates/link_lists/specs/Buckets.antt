@@ -1,9 +1,10 @@
 -- The links by which the items of a queue are kept, in one chain for each bucket. A slot is what
 -- leads to an item: slot i, below the number of items, is what follows item i, and slot n + b is
 -- where the chain of bucket b begins, where there are n items. The end of a chain is written as n.
-use Rattle.std.specs.Prelude.{◌≡◌, ◌<◌, ◌≤◌, ◌+◌, ◌-◌, ◌%◌, ◌/◌, ◌^◌, ℕ, Bool, true, List, Option, None, Some, length, nat_lt, if◌then◌else◌, slice_index, slice_index_or}
+use Rattle.std.specs.Prelude.{◌≡◌, ◌<◌, ◌≤◌, ◌+◌, ◌-◌, ◌%◌, ◌/◌, ◌^◌, ℕ, Bool, true, List, ◌++◌, Option, None, Some, length, nat_lt, if◌then◌else◌, slice_index, slice_index_or}
 use Rattle.std.specs.Option.{option_map}
 use Rattle.std.specs.List.{sum_by}
+use Rattle.link_lists.specs.Arrays.{AreWritten}
 use Rattle.link_lists.specs.Bits.{IsIn}
 
 -- the bucket of a slot: of an item that of its cost, where it is queued
@@ -58,8 +59,14 @@ abbrev pub weight : Option ℕ → ℕ
 weight None = 0
 weight (Some _) = 1
 
--- what holds of the fields of a queue
+-- what holds of a queue, its links and its set
 pub record IsQueue (span popped count : ℕ) (costs : List (Option ℕ)) (next prev words : List ℕ) : Type 0 where
   pub bucketed : IsBucketed span popped costs next prev
   pub filled : AreFilled span (length costs) next words
   pub counted : count ≡ sum_by weight costs
+
+-- what holds of the fields of a queue, as three arrays have the links
+pub record IsQueueInArrays (span popped count : ℕ) (costs : List (Option ℕ)) (next firsts prev words : List ℕ) : Type 0 where
+  pub places : List ℕ
+  pub written : AreWritten (length costs) next prev places
+  pub queue : IsQueue span popped count costs (next ++ firsts) places words

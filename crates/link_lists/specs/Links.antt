@@ -1,8 +1,9 @@
 -- The links by which lists are kept: arrays of neighbours. A slot is what leads to a position: slot
 -- i, below the number of positions, is what follows position i, and slot n + l is where list l
 -- begins, where there are n positions. The end of a list is written as n.
-use Rattle.std.specs.Prelude.{◌≡◌, ◌<◌, ◌≤◌, ◌+◌, ◌-◌, ◌^◌, ℕ, List, length, take, nat_lt, if◌then◌else◌, slice_index}
+use Rattle.std.specs.Prelude.{◌≡◌, ◌<◌, ◌≤◌, ◌+◌, ◌-◌, ◌^◌, ℕ, List, ◌++◌, length, take, nat_lt, if◌then◌else◌, slice_index}
 use Rattle.std.specs.List.{Contains}
+use Rattle.link_lists.specs.Arrays.{AreWritten}
 
 -- the list of a slot
 unfoldable pub list_at : List ℕ → ℕ → ℕ
@@ -52,3 +53,15 @@ pub record IsLinkage (lists : ℕ) (owner next prev unlinked : List ℕ) (capaci
   pub kept : (k : ℕ) → k < length unlinked →
       KeepsPlace (length owner + lists) owner (Contains (take k unlinked)) next prev (slice_index unlinked k)
   pub room : length owner ≤ capacity
+
+-- the links of all positions that aren't out, as three arrays have them
+pub record AreLinksInArrays (owner : List ℕ) (Out : ℕ → Type 0) (next firsts prev : List ℕ) : Type 0 where
+  pub places : List ℕ
+  pub written : AreWritten (length owner) next prev places
+  pub links : AreLinks (length owner + length firsts) owner Out (next ++ firsts) places
+
+-- what holds of the fields of lists, as three arrays have the links
+pub record IsLinkageInArrays (lists : ℕ) (owner next firsts prev unlinked : List ℕ) (capacity : ℕ) : Type 0 where
+  pub places : List ℕ
+  pub written : AreWritten (length owner) next prev places
+  pub linkage : IsLinkage lists owner (next ++ firsts) places unlinked capacity

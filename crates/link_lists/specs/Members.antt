@@ -32,7 +32,7 @@ HasNoneFrom m list from = (k : ℕ) → from ≤ k → IsMember m list k → ⊥
 
 -- what holds of all lists: each owner is one of them, and the unlinked positions are positions, and
 -- none is unlinked twice
-pub record IsSound (m : Membership) : Type 0 where
+pub record IsSoundMembership (m : Membership) : Type 0 where
   pub few : length m.owner < 2 ^ 32
   pub few_lists : m.lists < 2 ^ 32
   pub owners : (i : ℕ) → i < length m.owner → slice_index m.owner i < m.lists

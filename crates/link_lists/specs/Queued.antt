@@ -23,7 +23,7 @@ abbrev pub IsEmpty : Queued → Type 0
 IsEmpty q = (i : ℕ) → cost_of q i ≡ None
 
 -- what holds of all queues: each cost lies in the window
-pub record IsSound (q : Queued) : Type 0 where
+pub record IsSoundQueue (q : Queued) : Type 0 where
   pub few : length q.costs < 2 ^ 32
   pub narrow : q.span < 2 ^ 32
   pub low : (i c : ℕ) → cost_of q i ≡ Some c → q.popped ≤ c

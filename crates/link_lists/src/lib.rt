@@ -1,7 +1,9 @@
-//! Linked lists of numbers over arrays of links, and a queue by cost in buckets that are such lists.
+//! Linked lists of numbers over arrays of links, and a queue by cost in buckets that are such
+//! lists.
 #![tactic(auto)]
 
 mod bits;
+mod heads;
 mod lists;
 mod queue;
 #[cfg(test)]

@@ -1,7 +1,8 @@
 ghost use Rattle.std.specs.Prelude.{◌≡◌, ◌<◌, ◌≤◌, ◌+◌, ◌-◌, ◌^◌, ℕ, List, [], ◌∷◌, ◌++◌, length, take, slice_index, ◌↔◌, All, Contains, IfOk, IsTrue, MatchOption};
-ghost use Rattle.link_lists.specs.Members.{Membership, IsLinked, IsFirstFrom, HasNoneFrom, IsSound};
-ghost use Rattle.link_lists.specs.Links.{AreLinks};
+ghost use Rattle.link_lists.specs.Members.{Membership, IsLinked, IsFirstFrom, HasNoneFrom, IsSoundMembership};
+ghost use Rattle.link_lists.specs.Links.{AreLinksInArrays};
 
+use crate::heads::{follower, put_behind};
 use std::alloc::{AllocError, Global};
 use std::marker::Model;
 
@@ -16,24 +17,33 @@ use std::marker::Model;
 pub struct Lists {
     lists: u32,
     owner: Vec<u32>,
-    /// What follows each position, and behind these what each list begins with.
+    /// What follows each position in its list. The end of a list is written as the number of
+    /// positions, here and below.
     next: Vec<u32>,
-    /// The place in `next` that leads to each position, and behind these one that nothing reads.
-    /// A place counts positions and lists together, so it may be past what a `u32` holds.
-    prev: Vec<usize>,
+    /// What each list begins with.
+    firsts: Vec<u32>,
+    /// What each position follows in its list: the end, where the list begins with it. Behind these
+    /// stands one that nothing reads, so that what comes before the end can be written too.
+    prev: Vec<u32>,
     unlinked: Vec<u32>,
 }
 
 impl Model for Lists {
     ghost use Rattle.std.specs.Prelude.{vec_capacity};
     ghost use Rattle.link_lists.specs.Members.{Membership};
-    ghost use Rattle.link_lists.specs.Links.{IsLinkage};
+    ghost use Rattle.link_lists.specs.Links.{IsLinkageInArrays};
 
     ghost Value = { Membership };
 
-    ghost view = { λ a. record { lists = a.lists; owner = a.owner.items; unlinked = a.unlinked.items } };
+    ghost view = { λ a. record {
+      lists = a.lists;
+      owner = a.owner.items;
+      unlinked = a.unlinked.items;
+    } };
 
-    ghost invariant = { λ a. IsLinkage a.lists a.owner.items a.next.items a.prev.items a.unlinked.items (vec_capacity a.unlinked) };
+    ghost invariant = { λ a. IsLinkageInArrays a.lists a.owner.items a.next.items a.firsts.items
+        a.prev.items a.unlinked.items
+        (vec_capacity a.unlinked) };
 }
 
 impl Lists {
@@ -41,16 +51,24 @@ impl Lists {
     pub fn with_room(alloc: Global, lists: u32, owner: &[u32]) -> Result<Lists, AllocError>
         requires owners { All (λ list. list < lists) owner.now }
         requires few { length owner.now < 2 ^ 32 }
-        ensures { IfOk result (λ made. made ≡ record { lists = lists; owner = owner.now; unlinked = [] }) }
+        ensures { IfOk result (λ made. made ≡ record
+            { lists = lists; owner = owner.now; unlinked = [] }) }
     {
         let end = owner.len() as u32;
-        let mut next = vec![in alloc; end; owner.len() + lists as usize]?;
-        let mut prev = vec![in alloc; owner.len(); owner.len() + 1]?;
-        link_all(owner, next.as_mut_slice(), prev.as_mut_slice());
+        let mut next = vec![in alloc; end; owner.len()]?;
+        let mut firsts = vec![in alloc; end; lists as usize]?;
+        let mut prev = vec![in alloc; end; owner.len() + 1]?;
+        link_all(
+            owner,
+            next.as_mut_slice(),
+            firsts.as_mut_slice(),
+            prev.as_mut_slice(),
+        );
         Ok(Lists {
             lists,
             owner: Vec::from_slice(alloc, owner)?,
             next,
+            firsts,
             prev,
             unlinked: Vec::with_capacity(alloc, owner.len())?,
         })
@@ -58,7 +76,7 @@ impl Lists {
 
     /// Tells a caller's proof what holds of all lists. It does nothing.
     pub fn law(&self)
-        ensures { IsSound self.now }
+        ensures { IsSoundMembership self.now }
     {
         let _ = &self.lists;
     }
@@ -71,13 +89,15 @@ impl Lists {
         self.owner[i as usize]
     }
 
-    /// Whether a position stands in its list, in a fixed number of steps: then the place that led
-    /// to it when it was linked last still does.
+    /// Whether a position stands in its list, in a fixed number of steps: then what it followed
+    /// when it was linked last still leads to it.
     pub fn is_linked(&self, i: u32) -> bool
         requires { i < length self.now.owner }
         ensures { IsTrue result ↔ IsLinked self.now i }
     {
-        self.next[self.prev[i as usize]] == i
+        let list = self.owner[i as usize];
+        let before = self.prev[i as usize];
+        follower(&self.next, &self.firsts, list, before) == i
     }
 
     /// Takes a position out of its list.
@@ -85,9 +105,10 @@ impl Lists {
         requires { IsLinked self.old i }
         ensures { self.new ≡ record self.old { unlinked = self.old.unlinked ++ i ∷ [] } }
     {
+        let list = self.owner[i as usize];
         let before = self.prev[i as usize];
         let after = self.next[i as usize];
-        self.next[before] = after;
+        put_behind(&mut self.next, &mut self.firsts, list, before, after);
         self.prev[after as usize] = before;
         self.unlinked.push_reserved(i);
     }
@@ -97,12 +118,14 @@ impl Lists {
     pub fn relink(&mut self, i: u32)
         requires { (before : List ℕ) × (self.old.unlinked ≡ before ++ i ∷ []) }
         ensures undone { self.old ≡ record self.new { unlinked = self.new.unlinked ++ i ∷ [] } }
-        ensures after { self.new ≡ record self.old { unlinked = take (length self.old.unlinked - 1) self.old.unlinked } }
+        ensures after { self.new ≡ record self.old
+            { unlinked = take (length self.old.unlinked - 1) self.old.unlinked } }
     {
+        let list = self.owner[i as usize];
         let before = self.prev[i as usize];
         let after = self.next[i as usize];
-        self.next[before] = i;
-        self.prev[after as usize] = i as usize;
+        put_behind(&mut self.next, &mut self.firsts, list, before, i);
+        self.prev[after as usize] = i;
         let _ = self.unlinked.pop();
     }
 
@@ -130,7 +153,7 @@ impl Lists {
         requires { list < self.now.lists }
         ensures { MatchOption result (HasNoneFrom self.now list 0) (IsFirstFrom self.now list 0) }
     {
-        let first = self.next[self.owner.len() + list as usize];
+        let first = self.firsts[list as usize];
         if (first as usize) < self.owner.len() {
             Some(first)
         } else {
@@ -155,19 +178,24 @@ impl Lists {
 
 /// Links every position into its list, from the last to the first, each in front of those that are
 /// linked. The arrays are those of lists that hold nothing.
-fn link_all(owner: &[u32], next: &mut [u32], prev: &mut [usize])
+fn link_all(owner: &[u32], next: &mut [u32], firsts: &mut [u32], prev: &mut [u32])
     requires few { length owner.now < 2 ^ 32 }
-    requires slots { All (λ list. length owner.now + list < length next.old) owner.now }
-    requires room { length prev.old ≡ length owner.now + 1 }
+    requires lists { All (λ list. list < length firsts.old) owner.now }
+    requires follow { length next.old ≡ length owner.now }
+    requires lead { length prev.old ≡ length owner.now + 1 }
     requires none { All (λ j. j ≡ length owner.now) next.old }
-    ensures { AreLinks (length next.new) owner.now (Contains []) next.new prev.new }
+    requires none_first { All (λ j. j ≡ length owner.now) firsts.old }
+    requires none_before { All (λ j. j ≡ length owner.now) prev.old }
+    ensures lists { length firsts.new ≡ length firsts.old }
+    ensures links { AreLinksInArrays owner.now (Contains []) next.new firsts.new prev.new }
 {
+    let end = owner.len() as u32;
     for i in (0..owner.len()).rev() {
-        let head = owner.len() + owner[i] as usize;
-        let after = next[head];
+        let list = owner[i] as usize;
+        let after = firsts[list];
         next[i] = after;
-        prev[i] = head;
-        next[head] = i as u32;
-        prev[after as usize] = i;
+        prev[i] = end;
+        firsts[list] = i as u32;
+        prev[after as usize] = i as u32;
     }
 }

@@ -1,7 +1,8 @@
-ghost use Rattle.std.specs.Prelude.{◌≡◌, ◌<◌, ◌≤◌, ◌+◌, ◌%◌, ◌^◌, ℕ, ◌↔◌, Some, None, length, replicate, slice_index_or, slice_set, IsSome, IsSomeAnd, IsTrue, IfOk, MatchOption};
-ghost use Rattle.link_lists.specs.Queued.{Queued, cost_of, IsLeast, IsEmpty, IsSound};
+ghost use Rattle.std.specs.Prelude.{◌≡◌, ◌<◌, ◌≤◌, ◌+◌, ◌%◌, ◌^◌, ℕ, ◌↔◌, Some, None, length, replicate, slice_index_or, slice_set, IsSomeAnd, IsTrue, IfOk, MatchOption};
+ghost use Rattle.link_lists.specs.Queued.{Queued, cost_of, IsLeast, IsEmpty, IsSoundQueue};
 
 use crate::bits::{WORD, insert, next_around, remove};
+use crate::heads::put_behind;
 use std::alloc::{AllocError, Global};
 use std::marker::Model;
 
@@ -20,46 +21,53 @@ pub struct BucketQueue {
     /// How many items are queued.
     queued: usize,
     costs: Vec<Option<u64>>,
-    /// What follows each item in its bucket, and behind these what each bucket begins with.
+    /// What follows each item in its bucket. The end of a bucket is written as the number of items,
+    /// here and below.
     next: Vec<u32>,
-    /// The place in `next` that leads to each item, and behind these one that nothing reads. A
-    /// place counts items and buckets together, so it may be past what a `u32` holds.
-    prev: Vec<usize>,
+    /// What each bucket begins with.
+    firsts: Vec<u32>,
+    /// What each item follows in its bucket: the end, where the bucket begins with it. Behind these
+    /// stands one that nothing reads, so that what comes before the end can be written too.
+    prev: Vec<u32>,
     /// The set of the buckets in which there is an item.
     filled: Vec<u64>,
 }
 
 impl Model for BucketQueue {
     ghost use Rattle.link_lists.specs.Queued.{Queued};
-    ghost use Rattle.link_lists.specs.Buckets.{IsQueue};
+    ghost use Rattle.link_lists.specs.Buckets.{IsQueueInArrays};
 
     ghost Value = { Queued };
 
     ghost view = { λ a. record { span = a.span; popped = a.popped; costs = a.costs.items } };
 
-    ghost invariant = { λ a. IsQueue a.span a.popped a.queued a.costs.items a.next.items a.prev.items a.filled.items };
+    ghost invariant = { λ a. IsQueueInArrays a.span a.popped a.queued a.costs.items a.next.items
+        a.firsts.items a.prev.items
+        a.filled.items };
 }
 
 impl BucketQueue {
     /// A queue for so many items, none of them queued, whose costs lie up to `span` above the cost
     /// popped last, which is 0 at first.
     pub fn with_room(alloc: Global, items: u32, span: u32) -> Result<BucketQueue, AllocError>
-        ensures { IfOk result (λ made. made ≡ record { span = span; popped = 0; costs = replicate items None }) }
+        ensures { IfOk result (λ made. made ≡ record
+            { span = span; popped = 0; costs = replicate items None }) }
     {
         Ok(BucketQueue {
             span,
             popped: 0,
             queued: 0,
             costs: vec![in alloc; None; items as usize]?,
-            next: vec![in alloc; items; items as usize + span as usize + 1]?,
-            prev: vec![in alloc; items as usize; items as usize + 1]?,
+            next: vec![in alloc; items; items as usize]?,
+            firsts: vec![in alloc; items; span as usize + 1]?,
+            prev: vec![in alloc; items; items as usize + 1]?,
             filled: vec![in alloc; 0; span as usize / WORD + 1]?,
         })
     }
 
     /// Tells a caller's proof what holds of all queues. It does nothing.
     pub fn law(&self)
-        ensures { IsSound self.now }
+        ensures { IsSoundQueue self.now }
     {
         let _ = &self.span;
     }
@@ -88,12 +96,11 @@ impl BucketQueue {
         ensures { self.new ≡ record self.old { costs = slice_set self.old.costs i (Some cost) } }
     {
         let bucket = bucket_of(cost, self.span) as usize;
-        let head = self.costs.len() + bucket;
-        let after = self.next[head];
+        let after = self.firsts[bucket];
         self.next[i as usize] = after;
-        self.prev[i as usize] = head;
-        self.next[head] = i;
-        self.prev[after as usize] = i as usize;
+        self.prev[i as usize] = self.costs.len() as u32;
+        self.firsts[bucket] = i;
+        self.prev[after as usize] = i;
         self.costs[i as usize] = Some(cost);
         insert(&mut self.filled, bucket);
         self.queued += 1;
@@ -107,22 +114,26 @@ impl BucketQueue {
         ensures { self.new ≡ record self.old { costs = slice_set self.old.costs i (Some cost) } }
     {
         self.law();
-        self.take_out(i);
-        self.push(i, cost);
+        if let Some(before) = self.cost_of(i) {
+            self.take_out(i, before);
+            self.push(i, cost);
+        }
     }
 
     /// Takes out an item of least cost, with its cost; of several it may be any.
     pub fn pop_least(&mut self) -> Option<(u32, u64)>
-        ensures least { MatchOption result (IsEmpty self.old) (λ popped. IsLeast self.old popped.0 popped.1) }
+        ensures least { MatchOption result (IsEmpty self.old)
+            (λ popped. IsLeast self.old popped.0 popped.1) }
         ensures after { MatchOption result (self.new ≡ self.old)
-            (λ popped. self.new ≡ record self.old { popped = popped.1; costs = slice_set self.old.costs popped.0 None }) }
+            (λ popped. self.new ≡ record self.old
+            { popped = popped.1; costs = slice_set self.old.costs popped.0 None }) }
     {
         self.law();
         if self.is_empty() {
             return None;
         }
         let (item, cost) = self.least()?;
-        self.take_out(item);
+        self.take_out(item, cost);
         self.popped = cost;
         Some((item, cost))
     }
@@ -130,38 +141,44 @@ impl BucketQueue {
     /// Takes all items out, and lets costs begin at 0 again. It takes out each item that is queued,
     /// as `pop_least` does, and looks at no other.
     pub fn clear(&mut self)
-        ensures { self.new ≡ record self.old { popped = 0; costs = replicate (length self.old.costs) None } }
+        ensures { self.new ≡ record self.old {
+          popped = 0;
+          costs = replicate (length self.old.costs)
+              None;
+        } }
     {
         'items: while self.pop_least().is_some() {}
         self.popped = 0;
     }
 
-    /// Takes a queued item out of its bucket.
-    fn take_out(&mut self, i: u32)
+    /// Takes an item out of the bucket of the cost at which it is queued.
+    fn take_out(&mut self, i: u32, cost: u64)
         requires within { i < length self.old.costs }
-        requires queued { IsSome (cost_of self.old i) }
+        requires queued { cost_of self.old i ≡ Some cost }
         ensures { self.new ≡ record self.old { costs = slice_set self.old.costs i None } }
     {
+        let bucket = bucket_of(cost, self.span);
         let before = self.prev[i as usize];
         let after = self.next[i as usize];
-        self.next[before] = after;
+        put_behind(&mut self.next, &mut self.firsts, bucket, before, after);
         self.prev[after as usize] = before;
         self.costs[i as usize] = None;
         self.queued -= 1;
-        if before >= self.costs.len() && after as usize >= self.costs.len() {
-            remove(&mut self.filled, before - self.costs.len());
+        if before as usize >= self.costs.len() && after as usize >= self.costs.len() {
+            remove(&mut self.filled, bucket as usize);
         }
     }
 
     /// An item of least cost, with its cost.
     fn least(&self) -> Option<(u32, u64)>
-        ensures { MatchOption result (IsEmpty self.now) (λ found. IsLeast self.now found.0 found.1) }
+        ensures { MatchOption result (IsEmpty self.now)
+            (λ found. IsLeast self.now found.0 found.1) }
     {
         let from = bucket_of(self.popped, self.span) as usize;
         let Some(bucket) = next_around(&self.filled, from) else {
             return None;
         };
-        let item = self.next[self.costs.len() + bucket];
+        let item = self.firsts[bucket];
         match cost_at(self.costs.as_slice(), item) {
             Some(cost) => Some((item, cost)),
             None => None,

@@ -9,6 +9,6 @@ pub returns : goal.returns
 returns c =
     let a = c.self.inside in
     subst (λ (q : Queued). IsTrue (eqb a.queued 0) ↔ IsEmpty q) c.self.view_is (
-      λ zero_is. none_counted a.costs.items (sym c.self.invariant.counted ∙ eqb-true a.queued 0 zero_is),
-      λ none. eq-eqb a.queued 0 (c.self.invariant.counted ∙ counted_none a.costs.items none),
+      λ zero_is. none_counted a.costs.items (sym c.self.invariant.queue.counted ∙ eqb-true a.queued 0 zero_is),
+      λ none. eq-eqb a.queued 0 (c.self.invariant.queue.counted ∙ counted_none a.costs.items none),
     )
