@@ -83,7 +83,7 @@ fn main(rt: HostRuntime) -> Result<()> {
         println!(rt; "the same again: {}", answer.as_slice() == again.as_slice())?;
         println!(rt; "two on a row: cost {}", on_a_row(alloc, 0, 2)?.1)?;
         println!(rt; "none: cost {}", on_a_row(alloc, 0, 0)?.1)?;
-        println!(rt; "four on a row: cost {}", on_a_row(alloc, 0, 4)?.1)?;
+        println!(rt; "three on a row: cost {}", on_a_row(alloc, 0, 3)?.1)?;
         let alone = on_a_row(alloc, 1, 1)?.0;
         println!(rt;
             "one that fits the fifth site: {}",

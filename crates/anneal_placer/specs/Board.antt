@@ -1,7 +1,12 @@
 -- Places, and the block on each site.
-use Rattle.std.specs.Prelude.{◌≡◌, ◌<◌, ℕ, Bool, true, false, List, Option, Some, None, length, slice_index, slice_index_or}
+use Rattle.std.specs.Prelude.{◌≡◌, ◌<◌, ◌↔◌, ℕ, Bool, true, false, List, Option, Some, None, length, slice_index, slice_index_or}
+use Rattle.std.specs.List.{Contains}
 use Rattle.anneal_placer.specs.declared.task.AnnealTask.{AnnealTask}
 use Rattle.anneal_placer.specs.Task.{FitsAt, cost}
+
+-- the set has the listed pairs of kinds, and no others
+abbrev pub HaveSamePairs : List (ℕ × ℕ) → List (ℕ × ℕ) → Type 0
+HaveSamePairs fits pairs = (pair : ℕ × ℕ) → Contains pairs pair ↔ Contains fits pair
 
 -- each block stands on its site, and no other
 pub record AreOccupants (places : List ℕ) (occupants : List (Option ℕ)) : Type 0 where

@@ -6,6 +6,7 @@ use crate::board::Board;
 use crate::cost::total;
 use crate::descent::descend;
 use crate::indexed::BlockNets;
+use crate::pairing::Pairing;
 use crate::shake::shake;
 use std::alloc::{AllocError, Global};
 
@@ -29,15 +30,17 @@ pub fn anneal(
     requires few_sites { length task.now.sites.items + 1 < 2 ^ 32 }
     requires few_nets { length task.now.nets.items + 1 < 2 ^ 32 }
     ensures placed { IfOk result (λ answer. ArePlaces task.now answer.items) }
-    ensures no_dearer { IfOk result (λ answer. cost task.now answer.items ≤ cost task.now places.now) }
+    ensures no_dearer { IfOk result (λ answer. cost task.now answer.items ≤ cost task.now
+        places.now) }
     ensures settled { IfOk result (λ answer. IsSettled task.now answer.items) }
 {
     let nets = BlockNets::new(alloc, task)?;
+    let pairing = Pairing::of(alloc, &task.fits)?;
     let mut board = Board::new(alloc, task, places)?;
-    shake(alloc, task, &nets, &mut board, seed, moves)?;
+    shake(alloc, task, &nets, &pairing, &mut board, seed, moves)?;
     if total(task, places) < total(task, board.places.as_slice()) {
         board = Board::new(alloc, task, places)?;
     }
-    descend(alloc, task, &nets, &mut board)?;
+    descend(alloc, task, &nets, &pairing, &mut board)?;
     Ok(board.places)
 }

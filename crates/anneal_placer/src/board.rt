@@ -1,10 +1,11 @@
 ghost use Rattle.std.specs.Prelude.{◌≡◌, ◌<◌, ◌+◌, ◌^◌, ◌↔◌, ℕ, Option, Some, None, IfOk, IsTrue, length, slice_index, slice_index_or, slice_set};
 ghost use Rattle.std.specs.List.{swap};
 ghost use Rattle.matching.specs.Bipartite.{AreApart};
-ghost use Rattle.anneal_placer.specs.Board.{AreOccupants, IsBoard};
+ghost use Rattle.anneal_placer.specs.Board.{AreOccupants, HaveSamePairs, IsBoard};
 ghost use Rattle.anneal_placer.specs.Task.{ArePlaces, FitsAt};
 
 use crate::AnnealTask;
+use crate::pairing::Pairing;
 use std::alloc::{AllocError, Global};
 
 /// Where the blocks stand.
@@ -21,7 +22,8 @@ impl Board {
         requires placed { ArePlaces task.now places.now }
         requires few { length task.now.blocks.items + 1 < 2 ^ 32 }
         ensures places { IfOk result (λ board. board.places.items ≡ places.now) }
-        ensures board { IfOk result (λ board. IsBoard task.now board.places.items board.occupants.items) }
+        ensures board { IfOk result (λ board. IsBoard task.now board.places.items
+            board.occupants.items) }
     {
         let mut occupants = vec![in alloc; None; task.sites.len()]?;
         seat(places, &mut occupants);
@@ -65,7 +67,8 @@ impl Board {
 /// Puts each block on its site.
 fn seat(places: &[u32], occupants: &mut [Option<u32>])
     requires few { length places.now + 1 < 2 ^ 32 }
-    requires within { (block : ℕ) → block < length places.now → slice_index places.now block < length occupants.old }
+    requires within { (block : ℕ) → block < length places.now → slice_index places.now block
+        < length occupants.old }
     requires apart { AreApart places.now }
     requires empty { (site : ℕ) → slice_index_or occupants.old site None ≡ None }
     ensures { AreOccupants places.now occupants.new }
@@ -76,11 +79,12 @@ fn seat(places: &[u32], occupants: &mut [Option<u32>])
 }
 
 /// Whether the kind of a block goes with the kind of a site.
-pub(crate) fn fits(task: &AnnealTask, block: u32, site: u32) -> bool
+pub(crate) fn fits(task: &AnnealTask, pairing: &Pairing, block: u32, site: u32) -> bool
+    requires pairing { HaveSamePairs task.now.fits.items pairing.now.pairs.keys }
     requires block { block < length task.now.blocks.items }
     requires site { site < length task.now.sites.items }
     ensures { IsTrue result ↔ FitsAt task.now block site }
 {
     let pair = (task.blocks[block as usize], task.sites[site as usize].kind);
-    task.fits.contains(&pair)
+    pairing.pairs.contains(&pair)
 }

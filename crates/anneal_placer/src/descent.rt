@@ -2,7 +2,7 @@ ghost use Rattle.std.specs.Prelude.{◌≡◌, ◌<◌, ◌≤◌, ◌↔◌, �
 ghost use Rattle.std.specs.Prelude.{length, map, slice_index, slice_index_or, slice_set};
 ghost use Rattle.std.specs.List.{All, swap};
 ghost use Rattle.std.specs.Vec.{vec_items};
-ghost use Rattle.anneal_placer.specs.Board.{IsBoard, Descends};
+ghost use Rattle.anneal_placer.specs.Board.{HaveSamePairs, IsBoard, Descends};
 ghost use Rattle.anneal_placer.specs.Grid.{IsGrid};
 ghost use Rattle.anneal_placer.specs.Search.{AreBlockNets, ArePulls, AreStuck, IsDraw, IsStuck};
 ghost use Rattle.anneal_placer.specs.Search.{IsStuckAmong, IsStuckAt};
@@ -13,6 +13,7 @@ use crate::board::{Board, fits};
 use crate::draw::Draw;
 use crate::grid::Grid;
 use crate::indexed::BlockNets;
+use crate::pairing::Pairing;
 use crate::pull::{Pull, pulls_of};
 use crate::trial::exchange_trial;
 use crate::wake::woken;
@@ -23,11 +24,13 @@ pub(crate) fn descend(
     alloc: Global,
     task: &AnnealTask,
     nets: &BlockNets,
+    pairing: &Pairing,
     board: &mut Board,
 ) -> Result<(), AllocError>
     requires nets { AreBlockNets (nets_of task.now) (map vec_items nets.now.of.items)
         (length task.now.blocks.items) }
     requires named { NameBlocks (nets_of task.now) (length task.now.blocks.items) }
+    requires pairing { HaveSamePairs task.now.fits.items pairing.now.pairs.keys }
     requires few_blocks { length task.now.blocks.items + 1 < 2 ^ 32 }
     requires few_sites { length task.now.sites.items + 1 < 2 ^ 32 }
     requires board { IsBoard task.now board.old.places.items board.old.occupants.items }
@@ -41,9 +44,9 @@ pub(crate) fn descend(
     let mut better = true;
     while better {
         let before = Vec::from_slice(alloc, &board.places)?;
-        better = pass(alloc, task, nets, &grid, &all, board)?;
+        better = pass(alloc, task, nets, pairing, &grid, &all, board)?;
         if better {
-            follow(alloc, task, nets, &grid, before, board)?;
+            follow(alloc, task, nets, pairing, &grid, before, board)?;
         }
     }
     Ok(())
@@ -55,6 +58,7 @@ fn follow(
     alloc: Global,
     task: &AnnealTask,
     nets: &BlockNets,
+    pairing: &Pairing,
     grid: &Grid,
     before: Vec<u32>,
     board: &mut Board,
@@ -62,6 +66,7 @@ fn follow(
     requires nets { AreBlockNets (nets_of task.now) (map vec_items nets.now.of.items)
         (length task.now.blocks.items) }
     requires named { NameBlocks (nets_of task.now) (length task.now.blocks.items) }
+    requires pairing { HaveSamePairs task.now.fits.items pairing.now.pairs.keys }
     requires few_blocks { length task.now.blocks.items + 1 < 2 ^ 32 }
     requires grid { IsGrid task.now.sites.items grid.now.columns.items grid.now.rows.items
         grid.now.spots }
@@ -78,7 +83,7 @@ fn follow(
     while better {
         let active = woken(alloc, task, nets, &before, &board.places)?;
         before = Vec::from_slice(alloc, &board.places)?;
-        better = pass(alloc, task, nets, grid, &active, board)?;
+        better = pass(alloc, task, nets, pairing, grid, &active, board)?;
     }
     Ok(())
 }
@@ -91,6 +96,7 @@ fn pass(
     alloc: Global,
     task: &AnnealTask,
     nets: &BlockNets,
+    pairing: &Pairing,
     grid: &Grid,
     active: &[bool],
     board: &mut Board,
@@ -98,6 +104,7 @@ fn pass(
     requires nets { AreBlockNets (nets_of task.now) (map vec_items nets.now.of.items)
         (length task.now.blocks.items) }
     requires named { NameBlocks (nets_of task.now) (length task.now.blocks.items) }
+    requires pairing { HaveSamePairs task.now.fits.items pairing.now.pairs.keys }
     requires few_blocks { length task.now.blocks.items + 1 < 2 ^ 32 }
     requires grid { IsGrid task.now.sites.items grid.now.columns.items grid.now.rows.items
         grid.now.spots }
@@ -113,7 +120,9 @@ fn pass(
     let pulls = pulls_of(alloc, task, nets, &board.places)?;
     let mut better = false;
     for block in 0..task.blocks.len() as u32 {
-        if active[block as usize] && settle(alloc, task, nets, grid, &pulls, board, block)? {
+        if active[block as usize]
+            && settle(alloc, task, nets, pairing, grid, &pulls, board, block)?
+        {
             better = true;
         }
     }
@@ -125,6 +134,7 @@ fn settle(
     alloc: Global,
     task: &AnnealTask,
     nets: &BlockNets,
+    pairing: &Pairing,
     grid: &Grid,
     pulls: &[Pull],
     board: &mut Board,
@@ -133,6 +143,7 @@ fn settle(
     requires nets { AreBlockNets (nets_of task.now) (map vec_items nets.now.of.items)
         (length task.now.blocks.items) }
     requires named { NameBlocks (nets_of task.now) (length task.now.blocks.items) }
+    requires pairing { HaveSamePairs task.now.fits.items pairing.now.pairs.keys }
     requires grid { IsGrid task.now.sites.items grid.now.columns.items grid.now.rows.items
         grid.now.spots }
     requires few_rows { length grid.now.rows.items + 1 < 2 ^ 32 }
@@ -149,7 +160,7 @@ fn settle(
     let mut better = false;
     let mut draw = Draw::of(alloc, task, nets, &grid.columns, &board.places, block)?;
     for row in 0..grid.rows.len() as u32 {
-        if try_row(task, nets, grid, pulls, &draw, board, block, row) {
+        if try_row(task, nets, pairing, grid, pulls, &draw, board, block, row) {
             better = true;
             draw = Draw::of(alloc, task, nets, &grid.columns, &board.places, block)?;
         }
@@ -162,6 +173,7 @@ fn settle(
 fn try_row(
     task: &AnnealTask,
     nets: &BlockNets,
+    pairing: &Pairing,
     grid: &Grid,
     pulls: &[Pull],
     draw: &Draw,
@@ -172,6 +184,7 @@ fn try_row(
     requires nets { AreBlockNets (nets_of task.now) (map vec_items nets.now.of.items)
         (length task.now.blocks.items) }
     requires named { NameBlocks (nets_of task.now) (length task.now.blocks.items) }
+    requires pairing { HaveSamePairs task.now.fits.items pairing.now.pairs.keys }
     requires grid { IsGrid task.now.sites.items grid.now.columns.items grid.now.rows.items
         grid.now.spots }
     requires pulls { length pulls.now ≡ length task.now.blocks.items }
@@ -192,7 +205,18 @@ fn try_row(
     let spots = grid.spots.group(row);
     for spot in spots {
         let away = draw.columns[spot.column as usize];
-        if away < left && improve(task, nets, pulls, board, block, spot.site, left - away) {
+        if away < left
+            && improve(
+                task,
+                nets,
+                pairing,
+                pulls,
+                board,
+                block,
+                spot.site,
+                left - away,
+            )
+        {
             return true;
         }
     }
@@ -204,6 +228,7 @@ fn try_row(
 fn improve(
     task: &AnnealTask,
     nets: &BlockNets,
+    pairing: &Pairing,
     pulls: &[Pull],
     board: &mut Board,
     block: u32,
@@ -213,6 +238,7 @@ fn improve(
     requires nets { AreBlockNets (nets_of task.now) (map vec_items nets.now.of.items)
         (length task.now.blocks.items) }
     requires named { NameBlocks (nets_of task.now) (length task.now.blocks.items) }
+    requires pairing { HaveSamePairs task.now.fits.items pairing.now.pairs.keys }
     requires pulls { length pulls.now ≡ length task.now.blocks.items }
     requires board { IsBoard task.now board.old.places.items board.old.occupants.items }
     requires block { block < length task.now.blocks.items }
@@ -225,7 +251,7 @@ fn improve(
     ensures stuck { IsFalse result → ArePulls task.now board.old.places.items pulls.now
         → IsStuckAt task.now board.old.places.items board.old.occupants.items block site }
 {
-    if !fits(task, block, site) {
+    if !fits(task, pairing, block, site) {
         return false;
     }
     let Some(other) = board.occupants[site as usize] else {
@@ -233,7 +259,7 @@ fn improve(
         return true;
     };
     let home = board.places[block as usize];
-    if !fits(task, other, home) {
+    if !fits(task, pairing, other, home) {
         return false;
     }
     if !pulls[other as usize].reaches(task.sites[home as usize], gain) {

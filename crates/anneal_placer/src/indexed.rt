@@ -20,7 +20,8 @@ impl BlockNets {
     pub(crate) fn new(alloc: Global, task: &AnnealTask) -> Result<BlockNets, AllocError>
         requires named { NameBlocks (nets_of task.now) (length task.now.blocks.items) }
         requires few { length task.now.nets.items + 1 < 2 ^ 32 }
-        ensures { IfOk result (λ nets. AreBlockNets (nets_of task.now) (map vec_items nets.of.items) (length task.now.blocks.items)) }
+        ensures { IfOk result (λ nets. AreBlockNets (nets_of task.now) (map vec_items nets.of.items)
+            (length task.now.blocks.items)) }
     {
         let mut of = Vec::with_capacity(alloc, task.blocks.len())?;
         for _ in &task.blocks {
@@ -40,7 +41,8 @@ impl BlockNets {
         requires blocks { length places.now ≡ length task.now.blocks.items }
         requires sites { All (λ site. site < length task.now.sites.items) places.now }
         requires block { block < length places.now }
-        ensures value { result ≡ nets_cost task.now.sites.items places.now (with_block block (nets_of task.now)) }
+        ensures value { result ≡ nets_cost task.now.sites.items places.now
+            (with_block block (nets_of task.now)) }
         ensures small { result < 2 ^ 97 }
     {
         let mut sum = 0;
@@ -65,8 +67,10 @@ fn add_net(of: &mut [Vec<u32>], net: &[u32], number: u32) -> Result<(), AllocErr
 
 /// Adds a number that is above those of the list, unless it stands at the end already.
 fn push_once(list: &mut Vec<u32>, number: u32) -> Result<(), AllocError>
-    ensures again { (front : List ℕ) → list.old.items ≡ front ++ number ∷ [] → OnOk result (list.new.items ≡ list.old.items) }
-    ensures first { All (λ other. other < number) list.old.items → OnOk result (list.new.items ≡ list.old.items ++ number ∷ []) }
+    ensures again { (front : List ℕ) → list.old.items ≡ front ++ number ∷ [] → OnOk result
+        (list.new.items ≡ list.old.items) }
+    ensures first { All (λ other. other < number) list.old.items → OnOk result
+        (list.new.items ≡ list.old.items ++ number ∷ []) }
 {
     if let Some(last) = list.last() {
         if *last == number {

@@ -11,6 +11,7 @@ mod descent;
 mod draw;
 mod grid;
 mod indexed;
+mod pairing;
 mod pull;
 mod rect;
 mod shake;

@@ -97,7 +97,8 @@ impl Rect {
 
 /// The rectangle with one more site.
 fn joined(rect: Option<Rect>, site: SiteAt) -> Option<Rect>
-    ensures { (xs ys : List ℕ) → AreBounds xs ys rect → AreBounds (xs ++ site.x ∷ []) (ys ++ site.y ∷ []) result }
+    ensures { (xs ys : List ℕ) → AreBounds xs ys rect → AreBounds (xs ++ site.x ∷ [])
+        (ys ++ site.y ∷ []) result }
 {
     match rect {
         None => Some(Rect::at(site)),
@@ -128,7 +129,8 @@ pub(crate) fn rect_without(
 ) -> Option<Rect>
     requires sites { All (λ site. site < length sites.now) places.now }
     requires blocks { All (λ block. block < length places.now) net.now }
-    ensures { MatchOption result (without block net.now ≡ []) (IsRectOf sites.now places.now (without block net.now)) }
+    ensures { MatchOption result (without block net.now ≡ [])
+        (IsRectOf sites.now places.now (without block net.now)) }
 {
     let mut rect = None;
     for other in net {

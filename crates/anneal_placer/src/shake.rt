@@ -1,6 +1,6 @@
 ghost use Rattle.std.specs.Prelude.{◌≡◌, ◌<◌, ◌≤◌, ◌+◌, ◌^◌, OnOk, length, map};
 ghost use Rattle.std.specs.Vec.{vec_items};
-ghost use Rattle.anneal_placer.specs.Board.{IsBoard};
+ghost use Rattle.anneal_placer.specs.Board.{HaveSamePairs, IsBoard};
 ghost use Rattle.anneal_placer.specs.Search.{AreBlockNets};
 ghost use Rattle.anneal_placer.specs.Task.{FitsAt, NameBlocks, nets_of};
 
@@ -8,6 +8,7 @@ use crate::AnnealTask;
 use crate::board::{Board, fits};
 use crate::curve::Curve;
 use crate::indexed::BlockNets;
+use crate::pairing::Pairing;
 use crate::trial::{Trial, exchange_trial, move_trial};
 use rand_core::utils::NextWord;
 use rand_pcg::Pcg32;
@@ -15,6 +16,12 @@ use std::alloc::{AllocError, Global};
 
 /// How often the temperature falls.
 const ROUNDS: u32 = 200;
+
+/// How far along the curve from a neighbour a block is tried at most.
+const NEIGHBOURHOOD: u32 = 64;
+
+/// The window grows no narrower.
+const LEAST_WINDOW: u64 = 8;
 
 /// What the moves of a round came to.
 #[derive(Clone, Copy, Drop)]
@@ -42,6 +49,7 @@ pub(crate) fn shake(
     alloc: Global,
     task: &AnnealTask,
     nets: &BlockNets,
+    pairing: &Pairing,
     board: &mut Board,
     seed: u64,
     moves: u32,
@@ -49,6 +57,7 @@ pub(crate) fn shake(
     requires nets { AreBlockNets (nets_of task.now) (map vec_items nets.now.of.items)
         (length task.now.blocks.items) }
     requires named { NameBlocks (nets_of task.now) (length task.now.blocks.items) }
+    requires pairing { HaveSamePairs task.now.fits.items pairing.now.pairs.keys }
     requires few_blocks { length task.now.blocks.items + 1 < 2 ^ 32 }
     requires few_sites { length task.now.sites.items + 1 < 2 ^ 32 }
     requires board { IsBoard task.now board.old.places.items board.old.occupants.items }
@@ -63,7 +72,15 @@ pub(crate) fn shake(
     };
     for round in 0..ROUNDS {
         let more = if moves % ROUNDS > round { 1 } else { 0 };
-        let tally = try_moves(task, nets, board, &curve, &mut heat, moves / ROUNDS + more);
+        let tally = try_moves(
+            task,
+            nets,
+            pairing,
+            board,
+            &curve,
+            &mut heat,
+            moves / ROUNDS + more,
+        );
         if round == 0 {
             heat.kindle(tally);
         } else {
@@ -77,6 +94,7 @@ pub(crate) fn shake(
 fn try_moves(
     task: &AnnealTask,
     nets: &BlockNets,
+    pairing: &Pairing,
     board: &mut Board,
     curve: &Curve,
     heat: &mut Heat,
@@ -85,6 +103,7 @@ fn try_moves(
     requires nets { AreBlockNets (nets_of task.now) (map vec_items nets.now.of.items)
         (length task.now.blocks.items) }
     requires named { NameBlocks (nets_of task.now) (length task.now.blocks.items) }
+    requires pairing { HaveSamePairs task.now.fits.items pairing.now.pairs.keys }
     requires few_blocks { length task.now.blocks.items + 1 < 2 ^ 32 }
     requires few_sites { length task.now.sites.items + 1 < 2 ^ 32 }
     requires board { IsBoard task.now board.old.places.items board.old.occupants.items }
@@ -104,10 +123,10 @@ fn try_moves(
     for _ in 0..tries {
         let block = heat.words.next_word() % blocks;
         let home = board.places[block as usize];
-        let site = heat.near(curve, home);
-        if site < sites && site != home && fits(task, block, site) {
+        let site = heat.aim(task, nets, curve, &board.places, block);
+        if site < sites && site != home && fits(task, pairing, block, site) {
             let most = heat.patience();
-            let trial = try_step(task, nets, board, block, site, most);
+            let trial = try_step(task, nets, pairing, board, block, site, most);
             tally.count(trial, most);
         }
     }
@@ -119,6 +138,7 @@ fn try_moves(
 fn try_step(
     task: &AnnealTask,
     nets: &BlockNets,
+    pairing: &Pairing,
     board: &mut Board,
     block: u32,
     site: u32,
@@ -127,6 +147,7 @@ fn try_step(
     requires nets { AreBlockNets (nets_of task.now) (map vec_items nets.now.of.items)
         (length task.now.blocks.items) }
     requires named { NameBlocks (nets_of task.now) (length task.now.blocks.items) }
+    requires pairing { HaveSamePairs task.now.fits.items pairing.now.pairs.keys }
     requires board { IsBoard task.now board.old.places.items board.old.occupants.items }
     requires block { block < length task.now.blocks.items }
     requires fit { FitsAt task.now block site }
@@ -140,7 +161,7 @@ fn try_step(
         return trial;
     };
     let home = board.places[block as usize];
-    if !fits(task, other, home) {
+    if !fits(task, pairing, other, home) {
         return Trial {
             before: 0,
             after: u128::MAX,
@@ -169,17 +190,57 @@ impl Tally {
 }
 
 impl Heat {
+    /// A site for a block to be tried at: every second time near a block that shares a net with it,
+    /// and else near its own.
+    fn aim(
+        &mut self,
+        task: &AnnealTask,
+        nets: &BlockNets,
+        curve: &Curve,
+        places: &[u32],
+        block: u32,
+    ) -> u32 {
+        let window = self.window;
+        if self.words.next_word() % 2 != 0 {
+            if let Some(site) = self.neighbour(task, nets, places, block) {
+                return self.near(curve, site, window.min(NEIGHBOURHOOD));
+            }
+        }
+        let home = places.get(block as usize).copied().unwrap_or(0);
+        self.near(curve, home, window)
+    }
+
+    /// The site of a block of one of the block's nets.
+    fn neighbour(
+        &mut self,
+        task: &AnnealTask,
+        nets: &BlockNets,
+        places: &[u32],
+        block: u32,
+    ) -> Option<u32> {
+        let list = nets.of.get(block as usize)?;
+        let net = self.any_of(list)?;
+        let other = self.any_of(task.nets.get(net as usize)?)?;
+        places.get(other as usize).copied()
+    }
+
+    /// Any entry of a list, if it has one.
+    fn any_of(&mut self, list: &[u32]) -> Option<u32> {
+        let word = self.words.next_word() as usize;
+        list.get(word % list.len().max(1)).copied()
+    }
+
     /// A site not far from that one along the curve, or now and then any.
-    fn near(&mut self, curve: &Curve, home: u32) -> u32 {
+    fn near(&mut self, curve: &Curve, site: u32, window: u32) -> u32 {
         let word = self.words.next_word();
         let mut low = 0;
         let mut width = curve.len();
         if word % 16 != 0 {
-            low = curve.rank_of(home).saturating_sub(self.window);
-            width = self.window.saturating_mul(2).saturating_add(1);
+            low = curve.rank_of(site).saturating_sub(window);
+            width = window.saturating_mul(2).saturating_add(1);
         }
         let rank = low.saturating_add(self.words.next_word() % width.max(1));
-        curve.site(rank).unwrap_or(home)
+        curve.site(rank).unwrap_or(site)
     }
 
     /// The most by which the cost may rise in a step: half as much again every second time.
@@ -190,18 +251,18 @@ impl Heat {
     /// Sets the level by the mean rise of the steps that made the cost more.
     fn kindle(&mut self, tally: Tally) {
         let mean = tally.rise / (tally.dearer.max(1) as u128);
-        self.level = mean.min(1 << 40).saturating_mul(1 << 13) as u64;
-        self.halves = 64 - (self.level >> 13).leading_zeros() as u64;
+        self.level = mean.min(1 << 40).saturating_mul(1 << 14) as u64;
+        self.halves = 64 - (self.level >> 14).leading_zeros() as u64;
     }
 
     /// Lowers the level a little, and narrows the window where few steps are taken.
     fn cool(&mut self, tally: Tally) {
         self.level = self
             .level
-            .saturating_sub((self.level / 289).saturating_mul(self.halves));
+            .saturating_sub((self.level / 350).saturating_mul(self.halves));
         let share = tally.taken.saturating_mul(100) / tally.tried.max(1);
         let window = (self.window as u64).saturating_mul(share.min(100) + 56) / 100;
-        self.window = window.clamp(4, 1 << 31) as u32;
+        self.window = window.clamp(LEAST_WINDOW, 1 << 31) as u32;
     }
 }
 

@@ -33,8 +33,10 @@ pub(crate) fn move_trial(
     requires block { block < length places.old }
     requires site { site < length task.now.sites.items }
     ensures kept { places.new ≡ places.old }
-    ensures before { result.before ≡ nets_cost task.now.sites.items places.old (with_block block (nets_of task.now)) }
-    ensures after { result.after ≡ nets_cost task.now.sites.items (slice_set places.old block site) (with_block block (nets_of task.now)) }
+    ensures before { result.before ≡ nets_cost task.now.sites.items places.old
+        (with_block block (nets_of task.now)) }
+    ensures after { result.after ≡ nets_cost task.now.sites.items (slice_set places.old block site)
+        (with_block block (nets_of task.now)) }
 {
     let home = places[block as usize];
     let before = nets.cost_at(task, places, block);
@@ -60,8 +62,12 @@ pub(crate) fn exchange_trial(
     requires a { a < length places.old }
     requires b { b < length places.old }
     ensures kept { places.new ≡ places.old }
-    ensures before { result.before ≡ nets_cost task.now.sites.items places.old (with_block a (nets_of task.now)) + nets_cost task.now.sites.items places.old (with_block b (nets_of task.now)) }
-    ensures after { result.after ≡ nets_cost task.now.sites.items (swap places.old a b) (with_block a (nets_of task.now)) + nets_cost task.now.sites.items (swap places.old a b) (with_block b (nets_of task.now)) }
+    ensures before { result.before ≡ nets_cost task.now.sites.items places.old
+        (with_block a (nets_of task.now)) + nets_cost task.now.sites.items places.old
+        (with_block b (nets_of task.now)) }
+    ensures after { result.after ≡ nets_cost task.now.sites.items (swap places.old a b)
+        (with_block a (nets_of task.now)) + nets_cost task.now.sites.items (swap places.old a b)
+        (with_block b (nets_of task.now)) }
 {
     let before = nets.cost_at(task, places, a) + nets.cost_at(task, places, b);
     places.swap(a as usize, b as usize);
