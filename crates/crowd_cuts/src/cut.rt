@@ -4,7 +4,8 @@ ghost use Rattle.crowd_cuts.specs.Reduction.{AreMarked, IsUnmarked};
 use sqlite_items::Items;
 use std::alloc::{AllocError, Global};
 
-/// Of the numbers on the right, in each of which a path would have to pass a node, the nodes that don't stand on the left.
+/// Of the numbers on the right, in each of which a path would have to pass a node, the nodes that
+/// don't stand on the left.
 pub(crate) fn cut_of(
     alloc: Global,
     nodes: u32,

@@ -9,8 +9,9 @@ use crate::{Flow, Plain};
 use sqlite_items::Items;
 use std::alloc::{AllocError, Global};
 
-/// That many paths from starts to ends that share no node, or a cut where there aren't as many. Starts and ends may be
-/// listed several times, and a node that is both is a path by itself. With a count of 0 the answer is no path.
+/// That many paths from starts to ends that share no node, or a cut where there aren't as many.
+/// Starts and ends may be listed several times, and a node that is both is a path by itself. With a
+/// count of 0 the answer is no path.
 ///
 /// The time is that of as many searches through nodes and edges as paths are wanted.
 pub fn disjoint_paths(
@@ -20,7 +21,8 @@ pub fn disjoint_paths(
     ends: &[u32],
     count: u32,
 ) -> Result<Flow, AllocError>
-    requires edges { All (λ edge. (edge.0 < graph.now.nodes) × (edge.1 < graph.now.nodes)) graph.now.edges }
+    requires edges { All (λ edge. (edge.0 < graph.now.nodes) × (edge.1 < graph.now.nodes))
+        graph.now.edges }
     requires starts { All (λ start. start < graph.now.nodes) starts.now }
     requires ends { All (λ end. end < graph.now.nodes) ends.now }
     requires few { 2 * graph.now.nodes < 2 ^ 32 }

@@ -14,12 +14,14 @@ pub(crate) fn unpassed(
     ends: &[u32],
     count: u32,
 ) -> Result<Matching, AllocError>
-    requires edges { All (λ edge. (edge.0 < graph.now.nodes) × (edge.1 < graph.now.nodes)) graph.now.edges }
+    requires edges { All (λ edge. (edge.0 < graph.now.nodes) × (edge.1 < graph.now.nodes))
+        graph.now.edges }
     requires starts { All (λ start. start < graph.now.nodes) starts.now }
     requires ends { All (λ end. end < graph.now.nodes) ends.now }
     requires few { 2 * graph.now.nodes < 2 ^ 32 }
     requires count { count ≤ graph.now.nodes }
-    ensures { IfOk result (λ placing. IsReduced graph.now.nodes graph.now.edges starts.now ends.now count placing.graph) }
+    ensures { IfOk result (λ placing. IsReduced graph.now.nodes graph.now.edges starts.now ends.now
+        count placing.graph) }
 {
     let rows = rows(alloc, graph.nodes, count)?;
     let pairs = pairs(alloc, graph, starts, ends)?;
@@ -49,7 +51,8 @@ fn pairs(
 ) -> Result<Vec<(u32, u32)>, AllocError>
     requires ends { All (λ end. end < graph.now.nodes) ends.now }
     requires few { 2 * graph.now.nodes < 2 ^ 32 }
-    ensures { IfOk result (λ pairs. pairs.items ≡ pairs_of graph.now.nodes graph.now.edges starts.now ends.now) }
+    ensures { IfOk result (λ pairs. pairs.items ≡ pairs_of graph.now.nodes graph.now.edges
+        starts.now ends.now) }
 {
     let mut pairs = selves(alloc, graph.nodes)?;
     pairs.extend_from_slice(graph.edges.as_slice())?;
@@ -60,7 +63,8 @@ fn pairs(
 
 /// Each node may be placed on itself.
 fn selves(alloc: Global, nodes: u32) -> Result<Vec<(u32, u32)>, AllocError>
-    ensures { IfOk result (λ pairs. pairs.items ≡ map (λ node. (node, node)) (range_with_len 0 nodes)) }
+    ensures { IfOk result (λ pairs. pairs.items ≡ map (λ node. (node, node))
+        (range_with_len 0 nodes)) }
 {
     (0..nodes).map(|node| (node, node)).collect(alloc)
 }
@@ -69,7 +73,8 @@ fn selves(alloc: Global, nodes: u32) -> Result<Vec<(u32, u32)>, AllocError>
 fn push_ends(pairs: &mut Vec<(u32, u32)>, nodes: u32, ends: &[u32]) -> Result<(), AllocError>
     requires ends { All (λ end. end < nodes) ends.now }
     requires few { 2 * nodes < 2 ^ 32 }
-    ensures { OnOk result (pairs.new.items ≡ pairs.old.items ++ map (λ end. (end, nodes + end)) ends.now) }
+    ensures { OnOk result (pairs.new.items ≡ pairs.old.items ++ map (λ end. (end, nodes + end))
+        ends.now) }
 {
     for end in ends {
         pairs.push((*end, nodes + *end))?;
@@ -79,7 +84,8 @@ fn push_ends(pairs: &mut Vec<(u32, u32)>, nodes: u32, ends: &[u32]) -> Result<()
 
 /// Wanted paths may be placed on starts.
 fn push_starts(pairs: &mut Vec<(u32, u32)>, nodes: u32, starts: &[u32]) -> Result<(), AllocError>
-    ensures { OnOk result (pairs.new.items ≡ pairs.old.items ++ map (λ start. (nodes, start)) starts.now) }
+    ensures { OnOk result (pairs.new.items ≡ pairs.old.items ++ map (λ start. (nodes, start))
+        starts.now) }
 {
     for start in starts {
         pairs.push((nodes, *start))?;

@@ -1,5 +1,5 @@
-//! Asks again and again for paths that share no node, through a graph that a generator of numbers makes, and tells how
-//! often there were as many. It is what bench/cuts times.
+//! Asks again and again for paths that share no node, through a graph that a generator of numbers
+//! makes, and tells how often there were as many. It is what bench/cuts times.
 #![tactic(auto)]
 
 ghost use Rattle.std.specs.Prelude.{◌≡◌, ◌<◌, ◌≤◌, IfOk, length};
@@ -48,7 +48,8 @@ impl Numbers {
         count: u32,
     ) -> Result<Items<(u32, u32)>, AllocError>
         requires { 0 < nodes }
-        ensures within { IfOk result (λ edges. All (λ edge. (edge.0 < nodes) × (edge.1 < nodes)) edges) }
+        ensures within { IfOk result (λ edges. All (λ edge. (edge.0 < nodes) × (edge.1 < nodes))
+            edges) }
         ensures count { IfOk result (λ edges. length edges ≤ count) }
     {
         let mut edges = Vec::new(alloc);

@@ -5,7 +5,7 @@ use Rattle.std.proofs.Math.ListN.{length-set, length-replicate}
 use Rattle.std.proofs.lemmas.Bool.{cases_lt, cases_eq}
 use Rattle.std.proofs.lemmas.List.{get_or_default, get_or_past, get_or-replicate, get_or-map, take_all, drop_all, length-map}
 use Rattle.matching.specs.Bipartite.{Graph, AreApart, GoTogether, IsPartial, IsPlacing, IsViolator, HasNoPlacing}
-use Rattle.matching.specs.Inside.{AreRows, AreCursors, AreClear, IsSound, IsLinked, IsTrail, IsReach, IsCovered, AreOwners, Extends, row_at, right_at}
+use Rattle.matching.specs.Inside.{AreRows, AreCursors, AreClear, IsSoundMatching, IsLinked, IsTrail, IsReach, IsCovered, AreOwners, Extends, row_at, right_at}
 use Rattle.matching.proofs.Counting.{no_more_than, place_in, contains_at}
 use Rattle.matching.proofs.Steps.{put_more, taken_off, some_within}
 
@@ -21,8 +21,8 @@ owners_within rows pairs place owner p r l is = (p.joined l r (p.placed l r is))
 
 -- other places and owners, as many as before
 pub placed_sound : (rows : List ℕ) (pairs : List (ℕ × ℕ)) (head next cursor : List ℕ) (place owner place' owner' : List (Option ℕ)) (seen scanned seen' scanned' : List Bool) →
-    IsSound rows pairs head next cursor place owner seen scanned → IsPartial (record { rows = rows; pairs = pairs }) place' owner' → length owner' ≡ length owner →
-    AreClear seen' (length seen) → AreClear scanned' (length scanned) → IsSound rows pairs head next cursor place' owner' seen' scanned'
+    IsSoundMatching rows pairs head next cursor place owner seen scanned → IsPartial (record { rows = rows; pairs = pairs }) place' owner' → length owner' ≡ length owner →
+    AreClear seen' (length seen) → AreClear scanned' (length scanned) → IsSoundMatching rows pairs head next cursor place' owner' seen' scanned'
 placed_sound rows pairs head next cursor place owner place' owner' seen scanned seen' scanned' s partial same unseen unscanned = record {
   tied = subst (AreRows rows pairs head next) (sym same) s.tied;
   cursors = s.cursors;
@@ -32,8 +32,8 @@ placed_sound rows pairs head next cursor place owner place' owner' seen scanned 
 }
 
 pub put_sound : (rows : List ℕ) (pairs : List (ℕ × ℕ)) (head next cursor : List ℕ) (place owner : List (Option ℕ)) (seen scanned : List Bool) (left right : ℕ) →
-    IsSound rows pairs head next cursor place owner seen scanned → GoTogether (record { rows = rows; pairs = pairs }) left right → get_or place left None ≡ None →
-    get_or owner right None ≡ None → IsSound rows pairs head next cursor (set place left (Some right)) (set owner right (Some left)) seen scanned
+    IsSoundMatching rows pairs head next cursor place owner seen scanned → GoTogether (record { rows = rows; pairs = pairs }) left right → get_or place left None ≡ None →
+    get_or owner right None ≡ None → IsSoundMatching rows pairs head next cursor (set place left (Some right)) (set owner right (Some left)) seen scanned
 put_sound rows pairs head next cursor place owner seen scanned left right s joined unplaced free =
     placed_sound rows pairs head next cursor place owner (set place left (Some right)) (set owner right (Some left)) seen scanned seen scanned s
     (put_more (record { rows = rows; pairs = pairs }) place owner left right s.partial joined
@@ -41,8 +41,8 @@ put_sound rows pairs head next cursor place owner seen scanned left right s join
     (length-set owner right (Some left)) (record { each = refl; clear = s.unseen.clear }) (record { each = refl; clear = s.unscanned.clear })
 
 pub taken_sound : (rows : List ℕ) (pairs : List (ℕ × ℕ)) (head next cursor : List ℕ) (place owner : List (Option ℕ)) (seen scanned : List Bool) (left right : ℕ) →
-    IsSound rows pairs head next cursor place owner seen scanned → get_or place left None ≡ Some right →
-    IsSound rows pairs head next cursor (set place left None) (set owner right None) seen scanned
+    IsSoundMatching rows pairs head next cursor place owner seen scanned → get_or place left None ≡ Some right →
+    IsSoundMatching rows pairs head next cursor (set place left None) (set owner right None) seen scanned
 taken_sound rows pairs head next cursor place owner seen scanned left right s placed =
     placed_sound rows pairs head next cursor place owner (set place left None) (set owner right None) seen scanned seen scanned s
     (taken_off (record { rows = rows; pairs = pairs }) place owner left right s.partial (s.partial.owned left right placed))
@@ -50,7 +50,7 @@ taken_sound rows pairs head next cursor place owner seen scanned left right s pl
 
 -- a right number that a left one has is within bounds
 pub right_of_within : (rows : List ℕ) (pairs : List (ℕ × ℕ)) (head next cursor : List ℕ) (place owner : List (Option ℕ)) (seen scanned : List Bool) (left right : ℕ) →
-    IsSound rows pairs head next cursor place owner seen scanned → get_or place left None ≡ Some right → right < length owner
+    IsSoundMatching rows pairs head next cursor place owner seen scanned → get_or place left None ≡ Some right → right < length owner
 right_of_within rows pairs head next cursor place owner seen scanned left right s placed = some_within owner right left (s.partial.owned left right placed)
 
 -- a row's cursor moves on to another pair of the row, or behind all pairs
@@ -67,8 +67,8 @@ cursor_moves pairs cursor rows row pair s row_in here = record {
 
 -- other cursors
 pub cursors_sound : (rows : List ℕ) (pairs : List (ℕ × ℕ)) (head next cursor cursor' : List ℕ) (place owner : List (Option ℕ)) (seen scanned : List Bool) (count : ℕ) →
-    IsSound rows pairs head next cursor place owner seen scanned → count ≡ length head → AreCursors pairs cursor' count →
-    IsSound rows pairs head next cursor' place owner seen scanned
+    IsSoundMatching rows pairs head next cursor place owner seen scanned → count ≡ length head → AreCursors pairs cursor' count →
+    IsSoundMatching rows pairs head next cursor' place owner seen scanned
 cursors_sound rows pairs head next cursor cursor' place owner seen scanned count s same moved = record {
   tied = s.tied;
   cursors = subst (AreCursors pairs cursor') same moved;
@@ -91,7 +91,7 @@ nothing n k x d same = elim (cases_lt k n) [
 ]
 
 pub new_sound : (rows : List ℕ) (pairs : List (ℕ × ℕ)) (head next : List ℕ) (row_count right_count : ℕ) → IsLinked pairs head next → length head ≡ row_count →
-    All (λ row. row < row_count) rows → All (λ (p : ℕ × ℕ). (p.0 < row_count) × (p.1 < right_count)) pairs → length rows < 2 ^ 32 → IsSound rows pairs head next head (replicate (length rows) None) (replicate right_count None) (replicate right_count false) (replicate row_count false)
+    All (λ row. row < row_count) rows → All (λ (p : ℕ × ℕ). (p.0 < row_count) × (p.1 < right_count)) pairs → length rows < 2 ^ 32 → IsSoundMatching rows pairs head next head (replicate (length rows) None) (replicate right_count None) (replicate right_count false) (replicate row_count false)
 new_sound rows pairs head next row_count right_count linked heads rows_in pairs_in few_lefts =
     let none : (n k : ℕ) → get_or (replicate n None) k None ≡ None = λ n k. nothing {X = Option ℕ} n k None None refl in
     record {

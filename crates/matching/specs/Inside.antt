@@ -9,7 +9,7 @@ abbrev pub right_at : List (ℕ × ℕ) → ℕ → ℕ
 right_at pairs k = (slice_index_or pairs k (0, 0)).1
 
 -- the first pair of the row from here on, or the number of pairs where there is none
-pub record IsFirstOf (pairs : List (ℕ × ℕ)) (row from at : ℕ) : Type 0 where
+pub record IsFirstOfRow (pairs : List (ℕ × ℕ)) (row from at : ℕ) : Type 0 where
   pub low : from ≤ at
   pub high : at ≤ length pairs
   pub none : (j : ℕ) → from ≤ j → j < at → row_at pairs j ≢ row
@@ -17,9 +17,9 @@ pub record IsFirstOf (pairs : List (ℕ × ℕ)) (row from at : ℕ) : Type 0 wh
 
 -- head leads to the first pair of each row, and next from each pair to the next of its row
 pub record IsLinked (pairs : List (ℕ × ℕ)) (head next : List ℕ) : Type 0 where
-  pub heads : (row : ℕ) → row < length head → IsFirstOf pairs row 0 (slice_index head row)
+  pub heads : (row : ℕ) → row < length head → IsFirstOfRow pairs row 0 (slice_index head row)
   pub follows : length next ≡ length pairs
-  pub nexts : (k : ℕ) → k < length pairs → IsFirstOf pairs (row_at pairs k) (k + 1) (slice_index next k)
+  pub nexts : (k : ℕ) → k < length pairs → IsFirstOfRow pairs (row_at pairs k) (k + 1) (slice_index next k)
 
 -- the rows of left numbers, tied to their pairs
 pub record AreRows (rows : List ℕ) (pairs : List (ℕ × ℕ)) (head next : List ℕ) (rights : ℕ) : Type 0 where
@@ -45,7 +45,7 @@ pub record AreClear (marks : List Bool) (count : ℕ) : Type 0 where
   pub clear : (k : ℕ) → slice_index_or marks k false ≡ false
 
 -- the fields of a matching
-pub record IsSound (rows : List ℕ) (pairs : List (ℕ × ℕ)) (head next cursor : List ℕ) (place owner : List (Option ℕ)) (seen scanned : List Bool) : Type 0 where
+pub record IsSoundMatching (rows : List ℕ) (pairs : List (ℕ × ℕ)) (head next cursor : List ℕ) (place owner : List (Option ℕ)) (seen scanned : List Bool) : Type 0 where
   pub tied : AreRows rows pairs head next (length owner)
   pub cursors : AreCursors pairs cursor (length head)
   pub partial : IsPartial (record { rows = rows; pairs = pairs }) place owner

@@ -6,8 +6,6 @@ mod moves;
 mod rows;
 mod search;
 mod state;
-#[cfg(test)]
-mod tests;
 
 pub use search::Violator;
 pub use state::Matching;

@@ -14,11 +14,15 @@ pub(crate) fn shift(
     trail: &Trail,
     out: WayOut,
 )
-    requires partial { IsPartial (record { rows = rows.now.of.items; pairs = rows.now.pairs.items }) place.old owner.old }
-    requires trail { IsTrail rows.now.of.items rows.now.pairs.items owner.old trail.now.lefts.items trail.now.rights.items trail.now.from.items }
+    requires partial { IsPartial (record { rows = rows.now.of.items; pairs = rows.now.pairs.items })
+        place.old owner.old }
+    requires trail { IsTrail rows.now.of.items rows.now.pairs.items owner.old trail.now.lefts.items
+        trail.now.rights.items trail.now.from.items }
     requires begin { slice_index_or place.old (slice_index trail.now.lefts.items 0) None ≡ None }
-    requires out { IsWayOut rows.now.of.items rows.now.pairs.items owner.old trail.now.lefts.items out.right out.at }
-    ensures partial { IsPartial (record { rows = rows.now.of.items; pairs = rows.now.pairs.items }) place.new owner.new }
+    requires out { IsWayOut rows.now.of.items rows.now.pairs.items owner.old trail.now.lefts.items
+        out.right out.at }
+    ensures partial { IsPartial (record { rows = rows.now.of.items; pairs = rows.now.pairs.items })
+        place.new owner.new }
     ensures adds { AddsLeft place.old place.new (slice_index trail.now.lefts.items 0) }
     ensures owners { KeepsOwners owner.old owner.new }
 {

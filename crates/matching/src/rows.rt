@@ -1,5 +1,5 @@
 ghost use Rattle.std.specs.Prelude.{◌≡◌, ◌<◌, ◌≤◌, ℕ, All, IfOk, IfSome, Option, None, length, slice_index, slice_index_or, vec_len};
-ghost use Rattle.matching.specs.Inside.{AreRows, AreCursors, IsFreeFor, IsFirstOf, IsLinked, row_at, right_at};
+ghost use Rattle.matching.specs.Inside.{AreRows, AreCursors, IsFreeFor, IsFirstOfRow, IsLinked, row_at, right_at};
 
 use std::alloc::{AllocError, Global};
 
@@ -27,7 +27,8 @@ impl Rows {
         ensures of { IfOk result (λ rows. rows.of.items ≡ of.items) }
         ensures pairs { IfOk result (λ rows. rows.pairs.items ≡ pairs.items) }
         ensures head { IfOk result (λ rows. vec_len rows.head ≡ row_count) }
-        ensures linked { IfOk result (λ rows. IsLinked pairs.items rows.head.items rows.next.items) }
+        ensures linked { IfOk result (λ rows. IsLinked pairs.items rows.head.items
+            rows.next.items) }
     {
         let count = pairs.len();
         let mut head = vec![in alloc; count; row_count as usize]?;
@@ -49,7 +50,8 @@ impl Rows {
         cursor: &mut [usize],
         row: u32,
     ) -> Option<u32>
-        requires rows { AreRows self.now.of.items self.now.pairs.items self.now.head.items self.now.next.items (length owner.now) }
+        requires rows { AreRows self.now.of.items self.now.pairs.items self.now.head.items
+            self.now.next.items (length owner.now) }
         requires cursors { AreCursors self.now.pairs.items cursor.old (vec_len self.now.head) }
         requires within { row < vec_len self.now.head }
         ensures cursors { AreCursors self.now.pairs.items cursor.new (vec_len self.now.head) }
@@ -68,7 +70,8 @@ impl Rows {
 /// Links the pairs of each row, from the last pair to the first.
 fn link(pairs: &[(u32, u32)], head: &mut [usize], next: &mut [usize])
     requires within { All (λ p. p.0 < length head.old) pairs.now }
-    requires none { (row : ℕ) → row < length head.old → slice_index head.old row ≡ length pairs.now }
+    requires none { (row : ℕ) → row < length head.old → slice_index head.old row ≡ length
+        pairs.now }
     requires room { length next.old ≡ length pairs.now }
     ensures { IsLinked pairs.now head.new next.new }
 {
@@ -84,10 +87,13 @@ fn link(pairs: &[(u32, u32)], head: &mut [usize], next: &mut [usize])
 /// The first pair of a chain whose right number nobody has, or the number of pairs.
 fn first_free(rows: &Rows, owner: &[Option<u32>], from: usize) -> usize
     requires linked { IsLinked rows.now.pairs.items rows.now.head.items rows.now.next.items }
-    requires within { (k : ℕ) → k < vec_len rows.now.pairs → right_at rows.now.pairs.items k < length owner.now }
+    requires within { (k : ℕ) → k < vec_len rows.now.pairs → right_at rows.now.pairs.items k
+        < length owner.now }
     ensures onward { from ≤ result }
-    ensures free { result < vec_len rows.now.pairs → slice_index_or owner.now (right_at rows.now.pairs.items result) None ≡ None }
-    ensures row { result < vec_len rows.now.pairs → row_at rows.now.pairs.items result ≡ row_at rows.now.pairs.items from }
+    ensures free { result < vec_len rows.now.pairs → slice_index_or owner.now
+        (right_at rows.now.pairs.items result) None ≡ None }
+    ensures row { result < vec_len rows.now.pairs → row_at rows.now.pairs.items result ≡ row_at
+        rows.now.pairs.items from }
 {
     let mut at = from;
     while at < rows.pairs.len() {

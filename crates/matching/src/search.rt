@@ -55,20 +55,28 @@ pub(crate) fn search(
     scanned: &mut [bool],
     trail: &mut Trail,
 ) -> Result<Option<WayOut>, AllocError>
-    requires rows { AreRows rows.now.of.items rows.now.pairs.items rows.now.head.items rows.now.next.items (length owner.now) }
+    requires rows { AreRows rows.now.of.items rows.now.pairs.items rows.now.head.items
+        rows.now.next.items (length owner.now) }
     requires owners { AreOwners rows.now.of.items owner.now }
     requires cursors { AreCursors rows.now.pairs.items cursor.old (vec_len rows.now.head) }
-    requires trail { IsTrail rows.now.of.items rows.now.pairs.items owner.now trail.old.lefts.items trail.old.rights.items trail.old.from.items }
+    requires trail { IsTrail rows.now.of.items rows.now.pairs.items owner.now trail.old.lefts.items
+        trail.old.rights.items trail.old.from.items }
     requires begin { trail.old.rights.items ≡ [] }
     requires seen { AreClear seen.old (length owner.now) }
     requires scanned { AreClear scanned.old (vec_len rows.now.head) }
     ensures cursors { AreCursors rows.now.pairs.items cursor.new (vec_len rows.now.head) }
     ensures first { Extends trail.old.lefts.items trail.new.lefts.items }
-    ensures reach { IsReach rows.now.of.items (length owner.now) trail.new.lefts.items trail.new.rights.items seen.new }
+    ensures reach { IsReach rows.now.of.items (length owner.now) trail.new.lefts.items
+        trail.new.rights.items seen.new }
     ensures scanned { AreScanned rows.now.of.items trail.new.lefts.items scanned.new }
-    ensures trail { IfOk result (λ _. IsTrail rows.now.of.items rows.now.pairs.items owner.now trail.new.lefts.items trail.new.rights.items trail.new.from.items) }
-    ensures free { IfOk result (λ found. IfSome found (λ out. IsWayOut rows.now.of.items rows.now.pairs.items owner.now trail.new.lefts.items out.right out.at)) }
-    ensures stuck { IfOk result (λ found. IfNone found ((k : ℕ) → k < vec_len trail.new.lefts → IsCovered rows.now.pairs.items seen.new (slice_index rows.now.of.items (slice_index trail.new.lefts.items k)))) }
+    ensures trail { IfOk result (λ _. IsTrail rows.now.of.items rows.now.pairs.items owner.now
+        trail.new.lefts.items trail.new.rights.items trail.new.from.items) }
+    ensures free { IfOk result (λ found. IfSome found
+        (λ out. IsWayOut rows.now.of.items rows.now.pairs.items owner.now trail.new.lefts.items
+        out.right out.at)) }
+    ensures stuck { IfOk result (λ found. IfNone found
+        ((k : ℕ) → k < vec_len trail.new.lefts → IsCovered rows.now.pairs.items seen.new
+        (slice_index rows.now.of.items (slice_index trail.new.lefts.items k)))) }
 {
     let mut at = 0;
     while at < trail.lefts.len() {
@@ -91,24 +99,34 @@ fn visit(
     scanned: &mut [bool],
     trail: &mut Trail,
 ) -> Result<Option<WayOut>, AllocError>
-    requires rows { AreRows rows.now.of.items rows.now.pairs.items rows.now.head.items rows.now.next.items (length owner.now) }
+    requires rows { AreRows rows.now.of.items rows.now.pairs.items rows.now.head.items
+        rows.now.next.items (length owner.now) }
     requires owners { AreOwners rows.now.of.items owner.now }
     requires cursors { AreCursors rows.now.pairs.items cursor.old (vec_len rows.now.head) }
-    requires trail { IsTrail rows.now.of.items rows.now.pairs.items owner.now trail.old.lefts.items trail.old.rights.items trail.old.from.items }
-    requires reach { IsReach rows.now.of.items (length owner.now) trail.old.lefts.items trail.old.rights.items seen.old }
+    requires trail { IsTrail rows.now.of.items rows.now.pairs.items owner.now trail.old.lefts.items
+        trail.old.rights.items trail.old.from.items }
+    requires reach { IsReach rows.now.of.items (length owner.now) trail.old.lefts.items
+        trail.old.rights.items seen.old }
     requires at { at < vec_len trail.old.lefts }
     requires marks { length scanned.old ≡ vec_len rows.now.head }
     requires scanned { AreScanned rows.now.of.items trail.old.lefts.items scanned.old }
     requires covered { AreCovered rows.now.pairs.items seen.old scanned.old }
     ensures cursors { AreCursors rows.now.pairs.items cursor.new (vec_len rows.now.head) }
     ensures first { Extends trail.old.lefts.items trail.new.lefts.items }
-    ensures reach { IsReach rows.now.of.items (length owner.now) trail.new.lefts.items trail.new.rights.items seen.new }
-    ensures trail { IfOk result (λ _. IsTrail rows.now.of.items rows.now.pairs.items owner.now trail.new.lefts.items trail.new.rights.items trail.new.from.items) }
-    ensures free { IfOk result (λ found. IfSome found (λ out. IsWayOut rows.now.of.items rows.now.pairs.items owner.now trail.new.lefts.items out.right out.at)) }
+    ensures reach { IsReach rows.now.of.items (length owner.now) trail.new.lefts.items
+        trail.new.rights.items seen.new }
+    ensures trail { IfOk result (λ _. IsTrail rows.now.of.items rows.now.pairs.items owner.now
+        trail.new.lefts.items trail.new.rights.items trail.new.from.items) }
+    ensures free { IfOk result (λ found. IfSome found
+        (λ out. IsWayOut rows.now.of.items rows.now.pairs.items owner.now trail.new.lefts.items
+        out.right out.at)) }
     ensures scanned { AreScanned rows.now.of.items trail.new.lefts.items scanned.new }
-    ensures kept { (row : ℕ) → slice_index_or scanned.old row false ≡ true → slice_index_or scanned.new row false ≡ true }
-    ensures here { slice_index_or scanned.new (slice_index rows.now.of.items (slice_index trail.old.lefts.items at)) false ≡ true }
-    ensures covered { IfOk result (λ found. IfNone found (AreCovered rows.now.pairs.items seen.new scanned.new)) }
+    ensures kept { (row : ℕ) → slice_index_or scanned.old row false ≡ true → slice_index_or
+        scanned.new row false ≡ true }
+    ensures here { slice_index_or scanned.new (slice_index rows.now.of.items
+        (slice_index trail.old.lefts.items at)) false ≡ true }
+    ensures covered { IfOk result (λ found. IfNone found
+        (AreCovered rows.now.pairs.items seen.new scanned.new)) }
 {
     let row = rows.of[trail.lefts[at] as usize] as usize;
     if scanned[row] {
@@ -127,19 +145,29 @@ fn scan(
     seen: &mut [bool],
     trail: &mut Trail,
 ) -> Result<Option<WayOut>, AllocError>
-    requires rows { AreRows rows.now.of.items rows.now.pairs.items rows.now.head.items rows.now.next.items (length owner.now) }
+    requires rows { AreRows rows.now.of.items rows.now.pairs.items rows.now.head.items
+        rows.now.next.items (length owner.now) }
     requires owners { AreOwners rows.now.of.items owner.now }
     requires cursors { AreCursors rows.now.pairs.items cursor.old (vec_len rows.now.head) }
-    requires trail { IsTrail rows.now.of.items rows.now.pairs.items owner.now trail.old.lefts.items trail.old.rights.items trail.old.from.items }
-    requires reach { IsReach rows.now.of.items (length owner.now) trail.old.lefts.items trail.old.rights.items seen.old }
+    requires trail { IsTrail rows.now.of.items rows.now.pairs.items owner.now trail.old.lefts.items
+        trail.old.rights.items trail.old.from.items }
+    requires reach { IsReach rows.now.of.items (length owner.now) trail.old.lefts.items
+        trail.old.rights.items seen.old }
     requires at { at < vec_len trail.old.lefts }
     ensures cursors { AreCursors rows.now.pairs.items cursor.new (vec_len rows.now.head) }
     ensures first { Extends trail.old.lefts.items trail.new.lefts.items }
-    ensures reach { IsReach rows.now.of.items (length owner.now) trail.new.lefts.items trail.new.rights.items seen.new }
-    ensures trail { IfOk result (λ _. IsTrail rows.now.of.items rows.now.pairs.items owner.now trail.new.lefts.items trail.new.rights.items trail.new.from.items) }
-    ensures free { IfOk result (λ found. IfSome found (λ out. IsWayOut rows.now.of.items rows.now.pairs.items owner.now trail.new.lefts.items out.right out.at)) }
-    ensures kept { (r : ℕ) → slice_index_or seen.old r false ≡ true → slice_index_or seen.new r false ≡ true }
-    ensures covered { IfOk result (λ found. IfNone found (IsCovered rows.now.pairs.items seen.new (slice_index rows.now.of.items (slice_index trail.old.lefts.items at)))) }
+    ensures reach { IsReach rows.now.of.items (length owner.now) trail.new.lefts.items
+        trail.new.rights.items seen.new }
+    ensures trail { IfOk result (λ _. IsTrail rows.now.of.items rows.now.pairs.items owner.now
+        trail.new.lefts.items trail.new.rights.items trail.new.from.items) }
+    ensures free { IfOk result (λ found. IfSome found
+        (λ out. IsWayOut rows.now.of.items rows.now.pairs.items owner.now trail.new.lefts.items
+        out.right out.at)) }
+    ensures kept { (r : ℕ) → slice_index_or seen.old r false ≡ true → slice_index_or seen.new r
+        false ≡ true }
+    ensures covered { IfOk result (λ found. IfNone found
+        (IsCovered rows.now.pairs.items seen.new (slice_index rows.now.of.items
+        (slice_index trail.old.lefts.items at)))) }
 {
     let row = rows.of[trail.lefts[at] as usize];
     let mut pair = rows.head[row as usize];
@@ -152,8 +180,8 @@ fn scan(
     Ok(None)
 }
 
-/// Reaches the right number of a pair from the left number at that place. It answers a way out where
-/// nobody has that number, or where the row of its owner has another that nobody has.
+/// Reaches the right number of a pair from the left number at that place. It answers a way out
+/// where nobody has that number, or where the row of its owner has another that nobody has.
 fn reach(
     rows: &Rows,
     owner: &[Option<u32>],
@@ -163,21 +191,31 @@ fn reach(
     seen: &mut [bool],
     trail: &mut Trail,
 ) -> Result<Option<WayOut>, AllocError>
-    requires rows { AreRows rows.now.of.items rows.now.pairs.items rows.now.head.items rows.now.next.items (length owner.now) }
+    requires rows { AreRows rows.now.of.items rows.now.pairs.items rows.now.head.items
+        rows.now.next.items (length owner.now) }
     requires owners { AreOwners rows.now.of.items owner.now }
     requires cursors { AreCursors rows.now.pairs.items cursor.old (vec_len rows.now.head) }
-    requires trail { IsTrail rows.now.of.items rows.now.pairs.items owner.now trail.old.lefts.items trail.old.rights.items trail.old.from.items }
-    requires reach { IsReach rows.now.of.items (length owner.now) trail.old.lefts.items trail.old.rights.items seen.old }
+    requires trail { IsTrail rows.now.of.items rows.now.pairs.items owner.now trail.old.lefts.items
+        trail.old.rights.items trail.old.from.items }
+    requires reach { IsReach rows.now.of.items (length owner.now) trail.old.lefts.items
+        trail.old.rights.items seen.old }
     requires at { at < vec_len trail.old.lefts }
     requires pair { pair < vec_len rows.now.pairs }
-    requires row { row_at rows.now.pairs.items pair ≡ (slice_index rows.now.of.items (slice_index trail.old.lefts.items at)) }
+    requires row { row_at rows.now.pairs.items pair
+        ≡ (slice_index rows.now.of.items (slice_index trail.old.lefts.items at)) }
     ensures cursors { AreCursors rows.now.pairs.items cursor.new (vec_len rows.now.head) }
     ensures first { Extends trail.old.lefts.items trail.new.lefts.items }
-    ensures reach { IsReach rows.now.of.items (length owner.now) trail.new.lefts.items trail.new.rights.items seen.new }
-    ensures trail { IfOk result (λ _. IsTrail rows.now.of.items rows.now.pairs.items owner.now trail.new.lefts.items trail.new.rights.items trail.new.from.items) }
-    ensures free { IfOk result (λ found. IfSome found (λ out. IsWayOut rows.now.of.items rows.now.pairs.items owner.now trail.new.lefts.items out.right out.at)) }
-    ensures kept { (r : ℕ) → slice_index_or seen.old r false ≡ true → slice_index_or seen.new r false ≡ true }
-    ensures reached { IfOk result (λ found. IfNone found (slice_index_or seen.new (right_at rows.now.pairs.items pair) false ≡ true)) }
+    ensures reach { IsReach rows.now.of.items (length owner.now) trail.new.lefts.items
+        trail.new.rights.items seen.new }
+    ensures trail { IfOk result (λ _. IsTrail rows.now.of.items rows.now.pairs.items owner.now
+        trail.new.lefts.items trail.new.rights.items trail.new.from.items) }
+    ensures free { IfOk result (λ found. IfSome found
+        (λ out. IsWayOut rows.now.of.items rows.now.pairs.items owner.now trail.new.lefts.items
+        out.right out.at)) }
+    ensures kept { (r : ℕ) → slice_index_or seen.old r false ≡ true → slice_index_or seen.new r
+        false ≡ true }
+    ensures reached { IfOk result (λ found. IfNone found
+        (slice_index_or seen.new (right_at rows.now.pairs.items pair) false ≡ true)) }
 {
     let right = rows.pairs[pair].1;
     if seen[right as usize] {
@@ -200,11 +238,14 @@ fn last_way_out(
     cursor: &mut [usize],
     trail: &Trail,
 ) -> Option<WayOut>
-    requires rows { AreRows rows.now.of.items rows.now.pairs.items rows.now.head.items rows.now.next.items (length owner.now) }
+    requires rows { AreRows rows.now.of.items rows.now.pairs.items rows.now.head.items
+        rows.now.next.items (length owner.now) }
     requires cursors { AreCursors rows.now.pairs.items cursor.old (vec_len rows.now.head) }
-    requires trail { IsTrail rows.now.of.items rows.now.pairs.items owner.now trail.now.lefts.items trail.now.rights.items trail.now.from.items }
+    requires trail { IsTrail rows.now.of.items rows.now.pairs.items owner.now trail.now.lefts.items
+        trail.now.rights.items trail.now.from.items }
     ensures cursors { AreCursors rows.now.pairs.items cursor.new (vec_len rows.now.head) }
-    ensures free { IfSome result (λ out. IsWayOut rows.now.of.items rows.now.pairs.items owner.now trail.now.lefts.items out.right out.at) }
+    ensures free { IfSome result (λ out. IsWayOut rows.now.of.items rows.now.pairs.items owner.now
+        trail.now.lefts.items out.right out.at) }
 {
     let at = trail.lefts.len() - 1;
     let row = rows.of[trail.lefts[at] as usize];
@@ -225,8 +266,10 @@ pub(crate) fn clear_rights(rights: &[u32], seen: &mut [bool])
 
 /// Takes back the marks of the rows that a search went through.
 pub(crate) fn clear_rows(rows: &Rows, lefts: &[u32], scanned: &mut [bool])
-    requires lefts { (k : ℕ) → k < length lefts.now → slice_index lefts.now k < vec_len rows.now.of }
-    requires rows { (l : ℕ) → l < vec_len rows.now.of → slice_index rows.now.of.items l < length scanned.old }
+    requires lefts { (k : ℕ) → k < length lefts.now → slice_index lefts.now k < vec_len
+        rows.now.of }
+    requires rows { (l : ℕ) → l < vec_len rows.now.of → slice_index rows.now.of.items l < length
+        scanned.old }
     requires marked { AreScanned rows.now.of.items lefts.now scanned.old }
     ensures { AreClear scanned.new (length scanned.old) }
 {

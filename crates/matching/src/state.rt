@@ -123,15 +123,17 @@ impl Matching {
 
     /// Places a left number, and moves others where that is needed; or answers left numbers, this
     /// one among them, that outnumber the right ones that go with them. A free right number is
-    /// taken where the row has one. Else a search goes at most once through each row that it reaches,
-    /// and ends at the first owner whose row has a free right number.
+    /// taken where the row has one. Else a search goes at most once through each row that it
+    /// reaches, and ends at the first owner whose row has a free right number.
     pub fn augment(&mut self, alloc: Global, left: u32) -> Result<Option<Violator>, AllocError>
         requires within { left < length self.old.place }
         requires unplaced { place_of self.old left ≡ None }
         ensures graph { IsSameGraph self.old self.new }
-        ensures placed { IfOk result (λ stuck. IfNone stuck (AddsLeft self.old.place self.new.place left)) }
+        ensures placed { IfOk result (λ stuck. IfNone stuck
+            (AddsLeft self.old.place self.new.place left)) }
         ensures owners { KeepsOwners self.old.owner self.new.owner }
-        ensures violator { IfOk result (λ stuck. IfSome stuck (λ v. IsViolator self.new.graph v.lefts.items v.rights.items)) }
+        ensures violator { IfOk result (λ stuck. IfSome stuck
+            (λ v. IsViolator self.new.graph v.lefts.items v.rights.items)) }
         ensures itself { IfOk result (λ stuck. IfSome stuck (λ v. Contains v.lefts.items left)) }
         ensures none { IfOk result (λ stuck. IfSome stuck (λ _. HasNoPlacing self.new.graph)) }
         ensures unchanged { IfOk result (λ stuck. OnSome stuck (self.new ≡ self.old)) }
@@ -189,7 +191,8 @@ impl Matching {
         ensures kept { (l : ℕ) → IsSome (place_of self.old l) → IsSome (place_of self.new l) }
         ensures owners { KeepsOwners self.old.owner self.new.owner }
         ensures placed { IfOk result (λ stuck. IfNone stuck (AllPlaced self.new.place)) }
-        ensures violator { IfOk result (λ stuck. IfSome stuck (λ v. IsViolator self.new.graph v.lefts.items v.rights.items)) }
+        ensures violator { IfOk result (λ stuck. IfSome stuck
+            (λ v. IsViolator self.new.graph v.lefts.items v.rights.items)) }
         ensures none { IfOk result (λ stuck. IfSome stuck (λ _. HasNoPlacing self.new.graph)) }
     {
         for left in 0..self.place.len() {
@@ -207,7 +210,8 @@ impl Matching {
         ensures kept { (l : ℕ) → IsSome (place_of self.old l) → IsSome (place_of self.new l) }
         ensures owners { KeepsOwners self.old.owner self.new.owner }
         ensures placed { IfOk result (λ stuck. IfNone stuck (IsSome (place_of self.new left))) }
-        ensures violator { IfOk result (λ stuck. IfSome stuck (λ v. IsViolator self.new.graph v.lefts.items v.rights.items)) }
+        ensures violator { IfOk result (λ stuck. IfSome stuck
+            (λ v. IsViolator self.new.graph v.lefts.items v.rights.items)) }
         ensures none { IfOk result (λ stuck. IfSome stuck (λ _. HasNoPlacing self.new.graph)) }
     {
         if self.place[left].is_some() {
@@ -220,7 +224,8 @@ impl Matching {
     pub fn answer(&self, alloc: Global) -> Result<Vec<u32>, AllocError>
         requires { AllPlaced self.now.place }
         ensures placing { IfOk result (λ answer. IsPlacing self.now.graph answer.items) }
-        ensures same { IfOk result (λ answer. (l : ℕ) → l < length self.now.place → place_of self.now l ≡ Some (slice_index answer.items l)) }
+        ensures same { IfOk result (λ answer. (l : ℕ) → l < length self.now.place → place_of
+            self.now l ≡ Some (slice_index answer.items l)) }
     {
         let mut answer = Vec::with_capacity(alloc, self.place.len())?;
         for place in &self.place {

@@ -3,10 +3,10 @@ use Rattle.std.proofs.Common.{◌≡◌, ◌<◌, ◌+◌, inl, inr, ℕ, List, 
 use Rattle.std.specs.List.{Contains}
 use Rattle.std.proofs.lemmas.Bool.{cases_lt, cases_eq}
 use Rattle.std.proofs.lemmas.List.Elements.{Contains-append_left, Contains-push, Contains-push_cases, Contains-get_or}
-use Rattle.place_match.specs.Tables.{AddsSites, ArePairs, IsFirstOf}
+use Rattle.place_match.specs.Tables.{AddsSites, ArePairs, IsFirstOfKind}
 
 -- nothing is added in front of the first site of the kind
-pub adds_none : (kinds : List ℕ) (row kind at : ℕ) (old : List (ℕ × ℕ)) → IsFirstOf kinds kind 0 at → AddsSites kinds row kind at old old
+pub adds_none : (kinds : List ℕ) (row kind at : ℕ) (old : List (ℕ × ℕ)) → IsFirstOfKind kinds kind 0 at → AddsSites kinds row kind at old old
 adds_none kinds row kind at old first = record {
   kept = λ pair there. there;
   added = λ site before is. absurd (first.none site (omega arith) before is);
@@ -15,7 +15,7 @@ adds_none kinds row kind at old first = record {
 
 -- one more site is added, and none of the kind stands between it and the next
 pub adds_more : (kinds : List ℕ) (row kind site next : ℕ) (old new : List (ℕ × ℕ)) → AddsSites kinds row kind site old new → site < length kinds → get_or kinds site 0 ≡ kind →
-    IsFirstOf kinds (get_or kinds site 0) (site + 1) next → AddsSites kinds row kind next old (new ++ (row, site) ∷ [])
+    IsFirstOfKind kinds (get_or kinds site 0) (site + 1) next → AddsSites kinds row kind next old (new ++ (row, site) ∷ [])
 adds_more kinds row kind site next old new a inside is after = record {
   kept = λ pair there. Contains-append_left new ((row, site) ∷ []) pair (a.kept pair there);
   added = λ other before of_kind. elim (cases_lt other site) [

@@ -29,7 +29,7 @@ pub record AreLinks (block_kinds site_kinds : List ℕ) (fits : List (ℕ × ℕ
   pub only : (link : ℕ × ℕ) → Contains links link → (k : ℕ) × (k < count) × IsLink block_kinds site_kinds (slice_index_or fits k (0, 0)) link
 
 -- the first site of the kind from here on, or the number of sites where there is none
-pub record IsFirstOf (kinds : List ℕ) (kind from at : ℕ) : Type 0 where
+pub record IsFirstOfKind (kinds : List ℕ) (kind from at : ℕ) : Type 0 where
   pub low : from ≤ at
   pub high : at ≤ length kinds
   pub none : (site : ℕ) → from ≤ site → site < at → slice_index kinds site ≢ kind
@@ -37,9 +37,9 @@ pub record IsFirstOf (kinds : List ℕ) (kind from at : ℕ) : Type 0 where
 
 -- first leads to the first site of each kind, and next from each site to the next of its kind
 pub record AreChained (kinds first next : List ℕ) : Type 0 where
-  pub firsts : (kind : ℕ) → kind < length first → IsFirstOf kinds kind 0 (slice_index first kind)
+  pub firsts : (kind : ℕ) → kind < length first → IsFirstOfKind kinds kind 0 (slice_index first kind)
   pub follows : length next ≡ length kinds
-  pub nexts : (site : ℕ) → site < length kinds → IsFirstOf kinds (slice_index kinds site) (site + 1) (slice_index next site)
+  pub nexts : (site : ℕ) → site < length kinds → IsFirstOfKind kinds (slice_index kinds site) (site + 1) (slice_index next site)
 
 -- the pairs of a row and the sites of a kind in front of a place were added
 pub record AddsSites (kinds : List ℕ) (row kind count : ℕ) (old new : List (ℕ × ℕ)) : Type 0 where

@@ -23,7 +23,8 @@ impl Chains {
         requires { All (λ kind. kind < kind_count) kinds.items }
         ensures kinds { IfOk result (λ chains. chains.kinds.items ≡ kinds.items) }
         ensures first { IfOk result (λ chains. vec_len chains.first ≡ kind_count) }
-        ensures chained { IfOk result (λ chains. AreChained kinds.items chains.first.items chains.next.items) }
+        ensures chained { IfOk result (λ chains. AreChained kinds.items chains.first.items
+            chains.next.items) }
     {
         let site_count = kinds.len();
         let mut first = vec![in alloc; site_count; kind_count]?;
@@ -38,10 +39,12 @@ impl Chains {
         alloc: Global,
         links: &[(u32, u32)],
     ) -> Result<Vec<(u32, u32)>, AllocError>
-        requires chained { AreChained self.now.kinds.items self.now.first.items self.now.next.items }
+        requires chained { AreChained self.now.kinds.items self.now.first.items
+            self.now.next.items }
         requires within { All (λ link. link.1 < vec_len self.now.first) links.now }
         requires few { length self.now.kinds.items < 2 ^ 32 }
-        ensures { IfOk result (λ pairs. ArePairs self.now.kinds.items links.now (length links.now) pairs.items) }
+        ensures { IfOk result (λ pairs. ArePairs self.now.kinds.items links.now (length links.now)
+            pairs.items) }
     {
         let mut pairs = Vec::new(alloc);
         for link in links {
@@ -52,10 +55,12 @@ impl Chains {
 
     /// Adds the pairs of the row and each site of that kind.
     fn push_sites(&self, pairs: &mut Vec<(u32, u32)>, row: u32, kind: u32) -> Result<(), AllocError>
-        requires chained { AreChained self.now.kinds.items self.now.first.items self.now.next.items }
+        requires chained { AreChained self.now.kinds.items self.now.first.items
+            self.now.next.items }
         requires within { kind < vec_len self.now.first }
         requires few { length self.now.kinds.items < 2 ^ 32 }
-        ensures { OnOk result (AddsSites self.now.kinds.items row kind (length self.now.kinds.items) pairs.old.items pairs.new.items) }
+        ensures { OnOk result (AddsSites self.now.kinds.items row kind (length self.now.kinds.items)
+            pairs.old.items pairs.new.items) }
     {
         let mut site = self.first[kind as usize];
         while site < self.kinds.len() {
@@ -69,7 +74,8 @@ impl Chains {
 /// Chains the sites of each kind, from the last site to the first.
 fn chain(kinds: &[u32], first: &mut [usize], next: &mut [usize])
     requires within { All (λ kind. kind < length first.old) kinds.now }
-    requires none { (kind : ℕ) → kind < length first.old → slice_index first.old kind ≡ length kinds.now }
+    requires none { (kind : ℕ) → kind < length first.old → slice_index first.old kind ≡ length
+        kinds.now }
     requires room { length next.old ≡ length kinds.now }
     ensures { AreChained kinds.now first.new next.new }
 {

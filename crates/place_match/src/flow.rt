@@ -19,11 +19,15 @@ impl Links {
         block_kind_count: usize,
         site_kind_count: usize,
     ) -> Result<Links, AllocError>
-        requires { All (λ link. (link.0 < block_kind_count) × (link.1 < site_kind_count)) links.now }
-        ensures chained { IfOk result (λ made. AreChainedLinks made.by_block.kinds.items made.by_block.first.items made.by_block.next.items
+        requires { All (λ link. (link.0 < block_kind_count) × (link.1 < site_kind_count))
+            links.now }
+        ensures chained { IfOk result (λ made. AreChainedLinks made.by_block.kinds.items
+            made.by_block.first.items made.by_block.next.items
             made.by_site.kinds.items made.by_site.first.items made.by_site.next.items) }
-        ensures block_kinds { IfOk result (λ made. made.by_block.kinds.items ≡ map (λ link. link.0) links.now) }
-        ensures site_kinds { IfOk result (λ made. made.by_site.kinds.items ≡ map (λ link. link.1) links.now) }
+        ensures block_kinds { IfOk result (λ made. made.by_block.kinds.items ≡ map (λ link. link.0)
+            links.now) }
+        ensures site_kinds { IfOk result (λ made. made.by_site.kinds.items ≡ map (λ link. link.1)
+            links.now) }
         ensures block_count { IfOk result (λ made. vec_len made.by_block.first ≡ block_kind_count) }
         ensures site_count { IfOk result (λ made. vec_len made.by_site.first ≡ site_kind_count) }
     {
@@ -44,7 +48,8 @@ pub(crate) fn flow_of(
     blocks: &[u32],
     room: &mut [u32],
 ) -> Result<Vec<u32>, AllocError>
-    requires links { AreChainedLinks links.now.by_block.kinds.items links.now.by_block.first.items links.now.by_block.next.items
+    requires links { AreChainedLinks links.now.by_block.kinds.items links.now.by_block.first.items
+        links.now.by_block.next.items
         links.now.by_site.kinds.items links.now.by_site.first.items links.now.by_site.next.items }
     requires blocks { All (λ kind. kind < vec_len links.now.by_block.first) blocks.now }
     requires room { length room.old ≡ vec_len links.now.by_site.first }
@@ -85,7 +90,8 @@ fn send(
     kind: usize,
     count: u32,
 ) -> Result<bool, AllocError>
-    requires links { AreChainedLinks links.now.by_block.kinds.items links.now.by_block.first.items links.now.by_block.next.items
+    requires links { AreChainedLinks links.now.by_block.kinds.items links.now.by_block.first.items
+        links.now.by_block.next.items
         links.now.by_site.kinds.items links.now.by_site.first.items links.now.by_site.next.items }
     requires kind { kind < vec_len links.now.by_block.first }
     requires amounts { length amounts.old ≡ vec_len links.now.by_block.kinds }

@@ -1,6 +1,6 @@
 //! First places: a site of its own for each block, of a kind that goes with the block's, or blocks
-//! that outnumber all the sites that fit any of them. By Hall's theorem there are such blocks exactly
-//! where there is no placing of all.
+//! that outnumber all the sites that fit any of them. By Hall's theorem there are such blocks
+//! exactly where there is no placing of all.
 #![tactic(auto)]
 
 mod chains;
@@ -10,8 +10,6 @@ mod links;
 mod numbered;
 mod places;
 mod seats;
-#[cfg(test)]
-mod tests;
 mod ways;
 
 pub use error::PlaceError;

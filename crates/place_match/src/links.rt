@@ -16,7 +16,8 @@ pub(crate) fn links_of(
     requires few_site_kinds { length site_kinds.now.keys < 2 ^ 32 }
     requires block_kinds_apart { AreApart block_kinds.now.keys }
     requires site_kinds_apart { AreApart site_kinds.now.keys }
-    ensures { IfOk result (λ links. AreLinks block_kinds.now.keys site_kinds.now.keys fits.now (length fits.now) links.keys) }
+    ensures { IfOk result (λ links. AreLinks block_kinds.now.keys site_kinds.now.keys fits.now
+        (length fits.now) links.keys) }
 {
     let mut links = IndexSet::new(alloc);
     for fit in fits {
@@ -35,7 +36,8 @@ fn link_of(
 ) -> Option<(u32, u32)>
     requires few_block_kinds { length block_kinds.now.keys < 2 ^ 32 }
     requires few_site_kinds { length site_kinds.now.keys < 2 ^ 32 }
-    ensures { MatchOption result (IsNoLink block_kinds.now.keys site_kinds.now.keys fit) (IsLink block_kinds.now.keys site_kinds.now.keys fit) }
+    ensures { MatchOption result (IsNoLink block_kinds.now.keys site_kinds.now.keys fit)
+        (IsLink block_kinds.now.keys site_kinds.now.keys fit) }
 {
     let block_kind = block_kinds.get_index_of(&fit.0)?;
     let site_kind = site_kinds.get_index_of(&fit.1)?;

@@ -15,7 +15,8 @@ pub(crate) struct Numbered {
 impl Numbered {
     pub(crate) fn of(alloc: Global, list: &[u32]) -> Result<Numbered, AllocError>
         requires { length list.now < 2 ^ 32 }
-        ensures { IfOk result (λ n. AreNumbers list.now (length list.now) n.kinds.keys n.numbers.items) }
+        ensures { IfOk result (λ n. AreNumbers list.now (length list.now) n.kinds.keys
+            n.numbers.items) }
     {
         let mut kinds = IndexSet::new(alloc);
         let mut numbers = Vec::with_capacity(alloc, list.len())?;

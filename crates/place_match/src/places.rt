@@ -14,13 +14,13 @@ use matching::Matching;
 use std::alloc::{AllocError, Global};
 
 /// A site of its own for each block: the number of its site, block by block. `blocks` and `sites`
-/// tell the kind of each, and `fits` the pairs of a block's kind and a site's kind that go together;
-/// a pair that is listed twice counts once.
+/// tell the kind of each, and `fits` the pairs of a block's kind and a site's kind that go
+/// together; a pair that is listed twice counts once.
 ///
-/// How many blocks of each kind go on sites of each kind is found first, by searches that mark kinds
-/// and not sites; then sites are handed out, and only blocks for which that wasn't enough are searched
-/// for one by one. So the time is that of the pairs of a block kind and a site that fits it, and of a
-/// few searches through the pairs of kinds.
+/// How many blocks of each kind go on sites of each kind is found first, by searches that mark
+/// kinds and not sites; then sites are handed out, and only blocks for which that wasn't enough are
+/// searched for one by one. So the time is that of the pairs of a block kind and a site that fits
+/// it, and of a few searches through the pairs of kinds.
 ///
 /// # Errors
 ///
@@ -89,7 +89,8 @@ fn begin(
     sites: &Chains,
     matching: &mut Matching,
 ) -> Result<(), AllocError>
-    requires links { AreChainedLinks links.now.by_block.kinds.items links.now.by_block.first.items links.now.by_block.next.items
+    requires links { AreChainedLinks links.now.by_block.kinds.items links.now.by_block.first.items
+        links.now.by_block.next.items
         links.now.by_site.kinds.items links.now.by_site.first.items links.now.by_site.next.items }
     requires blocks { All (λ kind. kind < vec_len links.now.by_block.first) blocks.now }
     requires few_blocks { length blocks.now < 2 ^ 32 }
@@ -99,7 +100,8 @@ fn begin(
     requires rights { length matching.old.owner ≡ vec_len sites.now.kinds }
     requires few_sites { vec_len sites.now.kinds < 2 ^ 32 }
     requires unplaced { (block : ℕ) → place_of matching.old block ≡ None }
-    requires joined { GoByLinks matching.old.graph blocks.now sites.now.kinds.items links.now.by_block.kinds.items links.now.by_site.kinds.items }
+    requires joined { GoByLinks matching.old.graph blocks.now sites.now.kinds.items
+        links.now.by_block.kinds.items links.now.by_site.kinds.items }
     ensures { matching.new.graph ≡ matching.old.graph }
 {
     let mut room = counts_of(alloc, &sites.kinds, sites.first.len())?;

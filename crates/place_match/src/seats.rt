@@ -15,7 +15,8 @@ pub(crate) fn hand_out(
     sites: &Chains,
     matching: &mut Matching,
 ) -> Result<(), AllocError>
-    requires links { AreChainedLinks links.now.by_block.kinds.items links.now.by_block.first.items links.now.by_block.next.items
+    requires links { AreChainedLinks links.now.by_block.kinds.items links.now.by_block.first.items
+        links.now.by_block.next.items
         links.now.by_site.kinds.items links.now.by_site.first.items links.now.by_site.next.items }
     requires amounts { length amounts.old ≡ vec_len links.now.by_block.kinds }
     requires blocks { All (λ kind. kind < vec_len links.now.by_block.first) blocks.now }
@@ -25,7 +26,8 @@ pub(crate) fn hand_out(
     requires rights { length matching.old.owner ≡ vec_len sites.now.kinds }
     requires few_sites { vec_len sites.now.kinds < 2 ^ 32 }
     requires unplaced { (block : ℕ) → place_of matching.old block ≡ None }
-    requires joined { GoByLinks matching.old.graph blocks.now sites.now.kinds.items links.now.by_block.kinds.items links.now.by_site.kinds.items }
+    requires joined { GoByLinks matching.old.graph blocks.now sites.now.kinds.items
+        links.now.by_block.kinds.items links.now.by_site.kinds.items }
     ensures { matching.new.graph ≡ matching.old.graph }
 {
     let mut link_of = links.by_block.first.clone()?;
@@ -51,17 +53,21 @@ fn next_seat(
     site_of: &mut [usize],
     kind: usize,
 ) -> Option<usize>
-    requires links { AreChainedLinks links.now.by_block.kinds.items links.now.by_block.first.items links.now.by_block.next.items
+    requires links { AreChainedLinks links.now.by_block.kinds.items links.now.by_block.first.items
+        links.now.by_block.next.items
         links.now.by_site.kinds.items links.now.by_site.first.items links.now.by_site.next.items }
     requires amounts { length amounts.old ≡ vec_len links.now.by_block.kinds }
     requires sites { AreChained sites.now.kinds.items sites.now.first.items sites.now.next.items }
     requires site_kinds { vec_len sites.now.first ≡ vec_len links.now.by_site.first }
     requires kind { kind < vec_len links.now.by_block.first }
-    requires link_of { AreCursors links.now.by_block.kinds.items (vec_len links.now.by_block.first) link_of.old }
+    requires link_of { AreCursors links.now.by_block.kinds.items (vec_len links.now.by_block.first)
+        link_of.old }
     requires site_of { AreCursors sites.now.kinds.items (vec_len sites.now.first) site_of.old }
-    ensures link_of { AreCursors links.now.by_block.kinds.items (vec_len links.now.by_block.first) link_of.new }
+    ensures link_of { AreCursors links.now.by_block.kinds.items (vec_len links.now.by_block.first)
+        link_of.new }
     ensures site_of { AreCursors sites.now.kinds.items (vec_len sites.now.first) site_of.new }
-    ensures seat { IfSome result (IsSeat links.now.by_block.kinds.items links.now.by_site.kinds.items sites.now.kinds.items kind) }
+    ensures seat { IfSome result (IsSeat links.now.by_block.kinds.items
+        links.now.by_site.kinds.items sites.now.kinds.items kind) }
 {
     let link = next_link(links, amounts, link_of[kind]);
     link_of[kind] = link;
@@ -80,11 +86,13 @@ fn next_seat(
 
 /// The first link of a chain on which a block is to go, or the number of links.
 fn next_link(links: &Links, amounts: &[u32], from: usize) -> usize
-    requires links { AreChainedLinks links.now.by_block.kinds.items links.now.by_block.first.items links.now.by_block.next.items
+    requires links { AreChainedLinks links.now.by_block.kinds.items links.now.by_block.first.items
+        links.now.by_block.next.items
         links.now.by_site.kinds.items links.now.by_site.first.items links.now.by_site.next.items }
     requires amounts { length amounts.now ≡ vec_len links.now.by_block.kinds }
     ensures onward { from ≤ result }
-    ensures kind { result < vec_len links.now.by_block.kinds → slice_index links.now.by_block.kinds.items result ≡ slice_index links.now.by_block.kinds.items from }
+    ensures kind { result < vec_len links.now.by_block.kinds → slice_index
+        links.now.by_block.kinds.items result ≡ slice_index links.now.by_block.kinds.items from }
 {
     let mut link = from;
     while link < amounts.len() && amounts[link] == 0 {

@@ -4,8 +4,8 @@ ghost use Rattle.place_match.specs.Tables.{AreChainedLinks, AreReached, IsSearch
 use crate::flow::Links;
 use std::alloc::{AllocError, Global};
 
-/// The links on which one more block goes and those on which one less does, and the kind of the free
-/// site at the end.
+/// The links on which one more block goes and those on which one less does, and the kind of the
+/// free site at the end.
 #[derive(Drop)]
 pub(crate) struct Way {
     more: Vec<usize>,
@@ -14,8 +14,8 @@ pub(crate) struct Way {
 }
 
 /// A way for a block of a kind to a free site, on which blocks of other kinds move on. The search
-/// goes by links from block kinds to site kinds, and back by links on which blocks went. It marks each
-/// kind once.
+/// goes by links from block kinds to site kinds, and back by links on which blocks went. It marks
+/// each kind once.
 pub(crate) fn find_way(
     alloc: Global,
     links: &Links,
@@ -23,13 +23,16 @@ pub(crate) fn find_way(
     room: &[u32],
     kind: usize,
 ) -> Result<Option<Way>, AllocError>
-    requires links { AreChainedLinks links.now.by_block.kinds.items links.now.by_block.first.items links.now.by_block.next.items
+    requires links { AreChainedLinks links.now.by_block.kinds.items links.now.by_block.first.items
+        links.now.by_block.next.items
         links.now.by_site.kinds.items links.now.by_site.first.items links.now.by_site.next.items }
     requires kind { kind < vec_len links.now.by_block.first }
     requires amounts { length amounts.now ≡ vec_len links.now.by_block.kinds }
     requires room { length room.now ≡ vec_len links.now.by_site.first }
-    ensures more { IfOk result (λ found. IfSome found (λ way. All (λ link. link < length amounts.now) way.more.items)) }
-    ensures less { IfOk result (λ found. IfSome found (λ way. All (λ link. link < length amounts.now) way.less.items)) }
+    ensures more { IfOk result (λ found. IfSome found
+        (λ way. All (λ link. link < length amounts.now) way.more.items)) }
+    ensures less { IfOk result (λ found. IfSome found
+        (λ way. All (λ link. link < length amounts.now) way.less.items)) }
     ensures end { IfOk result (λ found. IfSome found (λ way. way.end < length room.now)) }
 {
     let mut blocks_by = vec![in alloc; None; links.by_block.first.len()]?;
@@ -57,12 +60,15 @@ fn search(
     sites_by: &mut [Option<usize>],
     reached: &mut Vec<usize>,
 ) -> Result<Option<usize>, AllocError>
-    requires links { AreChainedLinks links.now.by_block.kinds.items links.now.by_block.first.items links.now.by_block.next.items
+    requires links { AreChainedLinks links.now.by_block.kinds.items links.now.by_block.first.items
+        links.now.by_block.next.items
         links.now.by_site.kinds.items links.now.by_site.first.items links.now.by_site.next.items }
     requires amounts { length amounts.now ≡ vec_len links.now.by_block.kinds }
     requires room { length room.now ≡ vec_len links.now.by_site.first }
-    requires search { IsSearch (vec_len links.now.by_block.first) (vec_len links.now.by_site.first) (vec_len links.now.by_block.kinds) blocks_by.old sites_by.old reached.old.items }
-    ensures search { IsSearch (vec_len links.now.by_block.first) (vec_len links.now.by_site.first) (vec_len links.now.by_block.kinds) blocks_by.new sites_by.new reached.new.items }
+    requires search { IsSearch (vec_len links.now.by_block.first) (vec_len links.now.by_site.first)
+        (vec_len links.now.by_block.kinds) blocks_by.old sites_by.old reached.old.items }
+    ensures search { IsSearch (vec_len links.now.by_block.first) (vec_len links.now.by_site.first)
+        (vec_len links.now.by_block.kinds) blocks_by.new sites_by.new reached.new.items }
     ensures end { IfOk result (λ found. IfSome found (λ end. end < length room.now)) }
 {
     for at in 0..links.by_block.first.len() {
@@ -88,13 +94,16 @@ fn scan(
     reached: &mut Vec<usize>,
     kind: usize,
 ) -> Result<Option<usize>, AllocError>
-    requires links { AreChainedLinks links.now.by_block.kinds.items links.now.by_block.first.items links.now.by_block.next.items
+    requires links { AreChainedLinks links.now.by_block.kinds.items links.now.by_block.first.items
+        links.now.by_block.next.items
         links.now.by_site.kinds.items links.now.by_site.first.items links.now.by_site.next.items }
     requires amounts { length amounts.now ≡ vec_len links.now.by_block.kinds }
     requires room { length room.now ≡ vec_len links.now.by_site.first }
     requires kind { kind < vec_len links.now.by_block.first }
-    requires search { IsSearch (vec_len links.now.by_block.first) (vec_len links.now.by_site.first) (vec_len links.now.by_block.kinds) blocks_by.old sites_by.old reached.old.items }
-    ensures search { IsSearch (vec_len links.now.by_block.first) (vec_len links.now.by_site.first) (vec_len links.now.by_block.kinds) blocks_by.new sites_by.new reached.new.items }
+    requires search { IsSearch (vec_len links.now.by_block.first) (vec_len links.now.by_site.first)
+        (vec_len links.now.by_block.kinds) blocks_by.old sites_by.old reached.old.items }
+    ensures search { IsSearch (vec_len links.now.by_block.first) (vec_len links.now.by_site.first)
+        (vec_len links.now.by_block.kinds) blocks_by.new sites_by.new reached.new.items }
     ensures end { IfOk result (λ found. IfSome found (λ end. end < length room.now)) }
 {
     let mut link = links.by_block.first[kind];
@@ -120,16 +129,19 @@ fn reach_blocks(
     reached: &mut Vec<usize>,
     site_kind: usize,
 ) -> Result<(), AllocError>
-    requires links { AreChainedLinks links.now.by_block.kinds.items links.now.by_block.first.items links.now.by_block.next.items
+    requires links { AreChainedLinks links.now.by_block.kinds.items links.now.by_block.first.items
+        links.now.by_block.next.items
         links.now.by_site.kinds.items links.now.by_site.first.items links.now.by_site.next.items }
     requires amounts { length amounts.now ≡ vec_len links.now.by_block.kinds }
     requires kind { site_kind < vec_len links.now.by_site.first }
     requires blocks { length blocks_by.old ≡ vec_len links.now.by_block.first }
     requires block_links { AreReached (vec_len links.now.by_block.kinds) blocks_by.old }
-    requires reached { (k : ℕ) → k < vec_len reached.old → slice_index reached.old.items k < vec_len links.now.by_block.first }
+    requires reached { (k : ℕ) → k < vec_len reached.old → slice_index reached.old.items k < vec_len
+        links.now.by_block.first }
     requires begun { 0 < vec_len reached.old }
     ensures block_links { AreReached (vec_len links.now.by_block.kinds) blocks_by.new }
-    ensures reached { (k : ℕ) → k < vec_len reached.new → slice_index reached.new.items k < vec_len links.now.by_block.first }
+    ensures reached { (k : ℕ) → k < vec_len reached.new → slice_index reached.new.items k < vec_len
+        links.now.by_block.first }
     ensures begun { 0 < vec_len reached.new }
 {
     let mut link = links.by_site.first[site_kind];
@@ -152,15 +164,18 @@ fn way_to(
     sites_by: &[Option<usize>],
     end: usize,
 ) -> Result<Way, AllocError>
-    requires links { AreChainedLinks links.now.by_block.kinds.items links.now.by_block.first.items links.now.by_block.next.items
+    requires links { AreChainedLinks links.now.by_block.kinds.items links.now.by_block.first.items
+        links.now.by_block.next.items
         links.now.by_site.kinds.items links.now.by_site.first.items links.now.by_site.next.items }
     requires blocks { length blocks_by.now ≡ vec_len links.now.by_block.first }
     requires sites { length sites_by.now ≡ vec_len links.now.by_site.first }
     requires block_links { AreReached (vec_len links.now.by_block.kinds) blocks_by.now }
     requires site_links { AreReached (vec_len links.now.by_block.kinds) sites_by.now }
     requires end { end < vec_len links.now.by_site.first }
-    ensures more { IfOk result (λ way. All (λ link. link < vec_len links.now.by_block.kinds) way.more.items) }
-    ensures less { IfOk result (λ way. All (λ link. link < vec_len links.now.by_block.kinds) way.less.items) }
+    ensures more { IfOk result (λ way. All (λ link. link < vec_len links.now.by_block.kinds)
+        way.more.items) }
+    ensures less { IfOk result (λ way. All (λ link. link < vec_len links.now.by_block.kinds)
+        way.less.items) }
     ensures end { IfOk result (λ way. way.end ≡ end) }
 {
     let mut more = Vec::new(alloc);

@@ -1,5 +1,5 @@
-//! Asks again and again for first places of blocks on sites, and tells how often there are some. It is
-//! what bench/places times. Then it tells what a few small tasks are answered.
+//! Asks again and again for first places of blocks on sites, and tells how often there are some. It
+//! is what bench/places times. Then it tells what a few small tasks are answered.
 #![tactic(auto)]
 
 ghost use Rattle.std.specs.Prelude.{◌≡◌, ◌<◌, ◌≤◌, IfOk, length};
@@ -21,9 +21,9 @@ struct Task {
 }
 
 impl Task {
-    /// As many blocks and sites of each kind, the blocks from the last kind to the first. A block fits
-    /// sites of its own kind and of that many kinds less one in front of it; the first of these are
-    /// listed first, so that early blocks take what later ones need.
+    /// As many blocks and sites of each kind, the blocks from the last kind to the first. A block
+    /// fits sites of its own kind and of that many kinds less one in front of it; the first of
+    /// these are listed first, so that early blocks take what later ones need.
     fn new(
         alloc: Global,
         kinds: u32,
