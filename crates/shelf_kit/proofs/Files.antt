@@ -10,14 +10,14 @@ use Rattle.std.specs.FinMap.{find, get-from_entries, get-insert, get_tied, same_
 use Rattle.std.specs.Map.{lookup}
 use Rattle.std.specs.Str.{bytes_eq}
 use Rattle.std.proofs.lemmas.Map.Text.{btree_map_updates_text, is_eq-slice_cmp}
-use Rattle.vtr_base.specs.Outside.{Files, file, with_file, bytes_of, IsHeld, AppendsPart}
-use Rattle.shelf_kit.specs.Held.{held}
+use Rattle.vtr_base.specs.Outside.{Files, file, with_file, bytes_of, IsOnShelf, AppendsPart}
+use Rattle.shelf_kit.specs.MapFiles.{files_of}
 
 -- two shelves that answer alike hold the same files
 pub same_files : (m n : Files) → ((q : List ℕ) → file m q ≡ file n q) → m ≡ n
 same_files m n alike = same_map nat_list_cmp_total (slice_cmp-IsAntisymmetric nat_cmp-IsAntisymmetric) m n alike
 
--- a file that is held with these bytes, held with them again
+-- a file that is files_of with these bytes, files_of with them again
 pub with_file_same : (m : Files) (name bytes : List ℕ) → file m name ≡ Some bytes → with_file m name bytes ≡ m
 with_file_same m name bytes e = same_files _ _ (λ q. get-insert nat_list_cmp_total m name bytes q ∙
     elim (slice_cmp nat_cmp q name) as (λ r. slice_cmp nat_cmp q name ≡ r → cond (is_eq r) (Some bytes) (file m q) ≡ file m q) [
@@ -26,15 +26,15 @@ with_file_same m name bytes e = same_files _ _ (λ q. get-insert nat_list_cmp_to
       | Greater ↦ λ _. refl
     ] refl)
 
--- one more piece at the end of a file that is held, or all as before
+-- one more piece at the end of a file that is files_of, or all as before
 pub appended_or_same : {T E : Type 0} (r : Result T E) (m n : Files) (name bytes piece now : List ℕ) → file m name ≡ Some bytes
     → n ≡ with_file m name now → now ≡ (if is_ok r then bytes ++ piece else bytes)
     → OnOk r (n ≡ with_file m name (bytes_of (file m name) ++ piece)) × OnErr r (n ≡ m)
 appended_or_same (Ok _) m n name bytes piece now old new e = (new ∙ ap (with_file m name) (e ∙ ap (λ o. bytes_of o ++ piece) (sym old)), tt)
 appended_or_same (Err _) m n name bytes piece now old new e = (tt, new ∙ ap (with_file m name) e ∙ with_file_same m name bytes old)
 
--- a file that is held, as before, has a front of any piece at its end: the empty one
-pub nothing_appended : (m : Files) (name piece : List ℕ) → IsHeld m name → AppendsPart name piece (Some m) (Some m)
+-- a file that is files_of, as before, has a front of any piece at its end: the empty one
+pub nothing_appended : (m : Files) (name piece : List ℕ) → IsOnShelf m name → AppendsPart name piece (Some m) (Some m)
 nothing_appended m name piece there =
     elim (file m name) as (λ o. file m name ≡ o → IsSome o → AppendsPart name piece (Some m) (Some m)) [
       | Some bytes ↦ λ e _. ([], piece, refl, ap Some (sym (with_file_same m name (bytes_of (file m name) ++ []) (e ∙ ap Some (sym (append-nil _ ∙ ap bytes_of e))))))
@@ -55,16 +55,16 @@ module _ {Y Z : Type 0} where
         | false ↦ find_held es q
       ]
 
-  -- a name is held with the bytes that the map has at it
-  pub file_held : (m : BTreeMap (String Y) (Vec ℕ Z)) (q : List ℕ) → file (held m) q ≡ option_map vec_items (get_by_text m q)
+  -- a name is files_of with the bytes that the map has at it
+  pub file_held : (m : BTreeMap (String Y) (Vec ℕ Z)) (q : List ℕ) → file (files_of m) q ≡ option_map vec_items (get_by_text m q)
   file_held m q = get-from_entries nat_list_cmp_total _ q ∙ find_held m.entries q
 
   -- a map with a new value at one name holds the files with that one changed
   pub held_updated : (name : List ℕ) (m n : BTreeMap (String Y) (Vec ℕ Z)) (v : Vec ℕ Z)
-      → UpdatesBy string_cmp (λ k. slice_cmp nat_cmp name (string_bytes k)) m n (Some v) → held n ≡ with_file (held m) name (vec_items v)
+      → UpdatesBy string_cmp (λ k. slice_cmp nat_cmp name (string_bytes k)) m n (Some v) → files_of n ≡ with_file (files_of m) name (vec_items v)
   held_updated name m n v updates = same_files _ _ (λ q.
       let same : bytes_eq name q ≡ eq_by_cmp (slice_cmp nat_cmp) q name = sym (is_eq-slice_cmp name q) ∙ (eq_by_cmp_equiv nat_list_cmp_total).symm name q in
       file_held n q ∙ ap (option_map vec_items) (btree_map_updates_text name m n (Some v) updates q) ∙ changed vec_items (bytes_eq name q) v (get_by_text m q)
       ∙ ap (λ b. cond b (Some (vec_items v)) (option_map vec_items (get_by_text m q))) same
       ∙ ap (cond (eq_by_cmp (slice_cmp nat_cmp) q name) (Some (vec_items v))) (sym (file_held m q))
-      ∙ sym (get-insert nat_list_cmp_total (held m) name (vec_items v) q))
+      ∙ sym (get-insert nat_list_cmp_total (files_of m) name (vec_items v) q))

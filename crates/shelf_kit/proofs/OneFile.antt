@@ -7,7 +7,7 @@ use Rattle.std.specs.Cmp.Lexicographic.{slice_cmp, nat_list_cmp_total}
 use Rattle.std.specs.FinMap.{remove, get_tied, get-insert, get-remove}
 use Rattle.vtr_base.specs.declared.outside.ShelfError.{ShelfError}
 use Rattle.vtr_base.specs.declared.outside.ShelfError.TheVariants.{Missing, Failed, TooLong, OutOfMemory}
-use Rattle.vtr_base.specs.Outside.{Files, Beside, file, with_file, bytes_of, IsHeld, Told, Rose, begun, appended, written, AppendsPart, WrittenPart}
+use Rattle.vtr_base.specs.Outside.{Files, Beside, file, with_file, bytes_of, IsOnShelf, WhereKnown, Rose, begun, appended, written, AppendsPart, WrittenPart}
 use Rattle.shelf_kit.specs.OneFile.{bytes_at, others_than, beside_of}
 use Rattle.shelf_kit.proofs.Files.{same_files, nothing_appended}
 
@@ -15,14 +15,14 @@ use Rattle.shelf_kit.proofs.Files.{same_files, nothing_appended}
 pub file_with_file : (m : Files) (name bytes : List ℕ) → file (with_file m name bytes) name ≡ Some bytes
 file_with_file m name bytes = get-insert nat_list_cmp_total m name bytes name ∙ ap (λ b. cond b (Some bytes) (file m name)) ((eq_by_cmp_equiv nat_list_cmp_total).refl name)
 
--- and is held
-pub with_file_held : (m n : Files) (name bytes : List ℕ) → n ≡ with_file m name bytes → IsHeld n name
-with_file_held m n name bytes e = subst (λ k. IsHeld k name) (sym e) (subst IsSome (sym (file_with_file m name bytes)) refl)
+-- and is files_of
+pub with_file_held : (m n : Files) (name bytes : List ℕ) → n ≡ with_file m name bytes → IsOnShelf n name
+with_file_held m n name bytes e = subst (λ k. IsOnShelf k name) (sym e) (subst IsSome (sym (file_with_file m name bytes)) refl)
 
--- a file that was begun is held
-pub begun_held : (name : List ℕ) (old new : Option Files) → new ≡ begun name old → Told new (λ m. IsHeld m name)
-begun_held name None new e = subst (λ o. Told o (λ m. IsHeld m name)) (sym e) tt
-begun_held name (Some m) new e = subst (λ o. Told o (λ m. IsHeld m name)) (sym e) (with_file_held m _ name [] refl)
+-- a file that was begun is files_of
+pub begun_held : (name : List ℕ) (old new : Option Files) → new ≡ begun name old → WhereKnown new (λ m. IsOnShelf m name)
+begun_held name None new e = subst (λ o. WhereKnown o (λ m. IsOnShelf m name)) (sym e) tt
+begun_held name (Some m) new e = subst (λ o. WhereKnown o (λ m. IsOnShelf m name)) (sym e) (with_file_held m _ name [] refl)
 
 covered : {V : Type 0} (b : Bool) (v : V) (old : Option V) → cond b None (cond b (Some v) old) ≡ cond b None old
 covered true v old = refl
@@ -43,7 +43,7 @@ others_appended name piece (Some m) new e = ap (others_than name) e ∙ others_s
 pub beside_appended : (name piece : List ℕ) (old new : Option Files) (loan : ℕ) → new ≡ appended name piece old → beside_of name new loan ≡ beside_of name old loan
 beside_appended name piece old new loan e = ap (λ others. Some (record { name = name; others = others; loan = loan })) (others_appended name piece old new e)
 
-pub held_appended : (name piece : List ℕ) (old new : Option Files) → new ≡ appended name piece old → (m : Files) → new ≡ Some m → IsHeld m name
+pub held_appended : (name piece : List ℕ) (old new : Option Files) → new ≡ appended name piece old → (m : Files) → new ≡ Some m → IsOnShelf m name
 held_appended name piece None new e m is = absurd (cc)
 held_appended name piece (Some f) new e m is =
     let same : m ≡ with_file f name (bytes_of (file f name) ++ piece) = cc in
@@ -53,41 +53,41 @@ written_held : (piece : List ℕ) (o : Option (List ℕ)) → IsSome o → Some 
 written_held piece (Some b) there = refl
 written_held piece None there = absurd (cc)
 
-pub bytes_appended : (name piece : List ℕ) (old new : Option Files) → ((m : Files) → old ≡ Some m → IsHeld m name) → new ≡ appended name piece old
+pub bytes_appended : (name piece : List ℕ) (old new : Option Files) → ((m : Files) → old ≡ Some m → IsOnShelf m name) → new ≡ appended name piece old
     → bytes_at name new ≡ written piece (bytes_at name old)
-bytes_appended name piece None new held e = ap (bytes_at name) e
-bytes_appended name piece (Some m) new held e = ap (bytes_at name) e ∙ file_with_file m name _ ∙ written_held piece (file m name) (held m refl)
+bytes_appended name piece None new files_of e = ap (bytes_at name) e
+bytes_appended name piece (Some m) new files_of e = ap (bytes_at name) e ∙ file_with_file m name _ ∙ written_held piece (file m name) (files_of m refl)
 
-pub part_held : (name piece : List ℕ) (old new : Option Files) → AppendsPart name piece old new → (m : Files) → new ≡ Some m → IsHeld m name
+pub part_held : (name piece : List ℕ) (old new : Option Files) → AppendsPart name piece old new → (m : Files) → new ≡ Some m → IsOnShelf m name
 part_held name piece old new p = held_appended name p.0 old new p.3
 
 pub part_beside : (name piece : List ℕ) (old new : Option Files) (loan : ℕ) → AppendsPart name piece old new → beside_of name new loan ≡ beside_of name old loan
 part_beside name piece old new loan p = beside_appended name p.0 old new loan p.3
 
-pub part_written : (name piece : List ℕ) (old new : Option Files) → ((m : Files) → old ≡ Some m → IsHeld m name) → AppendsPart name piece old new
+pub part_written : (name piece : List ℕ) (old new : Option Files) → ((m : Files) → old ≡ Some m → IsOnShelf m name) → AppendsPart name piece old new
     → WrittenPart piece (bytes_at name old) (bytes_at name new)
-part_written name piece old new held p = (p.0, p.1, p.2, bytes_appended name p.0 old new held p.3)
+part_written name piece old new files_of p = (p.0, p.1, p.2, bytes_appended name p.0 old new files_of p.3)
 
-pub told_held : (name : List ℕ) (old : Option Files) → Told old (λ m. IsHeld m name) → (m : Files) → old ≡ Some m → IsHeld m name
+pub told_held : (name : List ℕ) (old : Option Files) → WhereKnown old (λ m. IsOnShelf m name) → (m : Files) → old ≡ Some m → IsOnShelf m name
 told_held name None told m e = absurd (cc)
-told_held name (Some f) told m e = let same : f ≡ m = cc in subst (λ k. IsHeld k name) same told
+told_held name (Some f) told m e = let same : f ≡ m = cc in subst (λ k. IsOnShelf k name) same told
 
-pub held_told : (name : List ℕ) (old : Option Files) → ((m : Files) → old ≡ Some m → IsHeld m name) → Told old (λ m. IsHeld m name)
-held_told name None held = tt
-held_told name (Some m) held = held m refl
+pub held_told : (name : List ℕ) (old : Option Files) → ((m : Files) → old ≡ Some m → IsOnShelf m name) → WhereKnown old (λ m. IsOnShelf m name)
+held_told name None files_of = tt
+held_told name (Some m) files_of = files_of m refl
 
-nothing_part : (name piece : List ℕ) (old : Option Files) → ((m : Files) → old ≡ Some m → IsHeld m name) → AppendsPart name piece old old
-nothing_part name piece None held = ([], piece, refl, refl)
-nothing_part name piece (Some m) held = nothing_appended m name piece (held m refl)
+nothing_part : (name piece : List ℕ) (old : Option Files) → ((m : Files) → old ≡ Some m → IsOnShelf m name) → AppendsPart name piece old old
+nothing_part name piece None files_of = ([], piece, refl, refl)
+nothing_part name piece (Some m) files_of = nothing_appended m name piece (files_of m refl)
 
 -- an append that failed, for whatever cause, left a front of the piece
-pub err_part : (e : ShelfError) (name piece : List ℕ) (old new : Option Files) (f f' : ℕ) → ((m : Files) → old ≡ Some m → IsHeld m name)
+pub err_part : (e : ShelfError) (name piece : List ℕ) (old new : Option Files) (f f' : ℕ) → ((m : Files) → old ≡ Some m → IsOnShelf m name)
     → (IsErrOf {T = Unit {0}} (Err e) Failed → Rose f f' × AppendsPart name piece old new) → (IsErrOf {T = Unit {0}} (Err e) OutOfMemory → new ≡ old)
     → (IsErrOf {T = Unit {0}} (Err e) Missing → ⊥) → (IsErrOf {T = Unit {0}} (Err e) TooLong → ⊥) → AppendsPart name piece old new
-err_part Failed name piece old new f f' held failed memory missing long = (failed refl).1
-err_part OutOfMemory name piece old new f f' held failed memory missing long = subst (AppendsPart name piece old) (sym (memory refl)) (nothing_part name piece old held)
-err_part Missing name piece old new f f' held failed memory missing long = absurd (missing refl)
-err_part TooLong name piece old new f f' held failed memory missing long = absurd (long refl)
+err_part Failed name piece old new f f' files_of failed memory missing long = (failed refl).1
+err_part OutOfMemory name piece old new f f' files_of failed memory missing long = subst (AppendsPart name piece old) (sym (memory refl)) (nothing_part name piece old files_of)
+err_part Missing name piece old new f f' files_of failed memory missing long = absurd (missing refl)
+err_part TooLong name piece old new f f' files_of failed memory missing long = absurd (long refl)
 
 -- an append that failed, and not for want of memory, is a fault
 pub err_rose : (e : ShelfError) (name piece : List ℕ) (old new : Option Files) (f f' : ℕ) → (e ≡ OutOfMemory → ⊥)
@@ -110,32 +110,32 @@ with_new_bytes m n name bytes others there = same_files _ _ (λ q.
 unwritten : (piece : List ℕ) (o : Option (List ℕ)) → IsSome o → written piece o ≡ Some (bytes_of o ++ piece)
 unwritten piece o there = sym (written_held piece o there)
 
-abbrev others_told : Option Beside → Option Files
-others_told None = None
-others_told (Some b) = b.others
+abbrev others_of : Option Beside → Option Files
+others_of None = None
+others_of (Some b) = b.others
 
-abbrev name_told : Option Beside → List ℕ
-name_told None = []
-name_told (Some b) = b.name
+abbrev name_of : Option Beside → List ℕ
+name_of None = []
+name_of (Some b) = b.name
 
-same_name_appended : (name piece : List ℕ) (old new : Option Files) → ((m : Files) → old ≡ Some m → IsHeld m name)
+same_name_appended : (name piece : List ℕ) (old new : Option Files) → ((m : Files) → old ≡ Some m → IsOnShelf m name)
     → others_than name new ≡ others_than name old → bytes_at name new ≡ written piece (bytes_at name old) → new ≡ appended name piece old
-same_name_appended name piece None None held others bytes = refl
-same_name_appended name piece None (Some n) held others bytes = absurd (cc)
-same_name_appended name piece (Some m) None held others bytes = absurd (cc)
-same_name_appended name piece (Some m) (Some n) held others bytes =
+same_name_appended name piece None None files_of others bytes = refl
+same_name_appended name piece None (Some n) files_of others bytes = absurd (cc)
+same_name_appended name piece (Some m) None files_of others bytes = absurd (cc)
+same_name_appended name piece (Some m) (Some n) files_of others bytes =
     let same : remove n name ≡ remove m name = cc in
-    ap Some (with_new_bytes m n name _ same (bytes ∙ unwritten piece (file m name) (held m refl)))
+    ap Some (with_new_bytes m n name _ same (bytes ∙ unwritten piece (file m name) (files_of m refl)))
 
 -- what a sink over one file tells says what the shelf holds: its other files stayed, and the bytes
 -- of this one grew by the piece
-pub told_appended : (name name' piece : List ℕ) (old new : Option Files) (loan loan' : ℕ) → ((m : Files) → old ≡ Some m → IsHeld m name)
+pub told_appended : (name name' piece : List ℕ) (old new : Option Files) (loan loan' : ℕ) → ((m : Files) → old ≡ Some m → IsOnShelf m name)
     → beside_of name' new loan' ≡ beside_of name old loan → bytes_at name' new ≡ written piece (bytes_at name old) → new ≡ appended name piece old
-told_appended name name' piece old new loan loan' held beside bytes =
-    let same : name' ≡ name = ap name_told beside in
-    same_name_appended name piece old new held (ap (λ k. others_than k new) (sym same) ∙ ap others_told beside) (ap (λ k. bytes_at k new) (sym same) ∙ bytes)
+told_appended name name' piece old new loan loan' files_of beside bytes =
+    let same : name' ≡ name = ap name_of beside in
+    same_name_appended name piece old new files_of (ap (λ k. others_than k new) (sym same) ∙ ap others_of beside) (ap (λ k. bytes_at k new) (sym same) ∙ bytes)
 
 -- the same after a failed put
-pub told_part : (name name' piece : List ℕ) (old new : Option Files) (loan loan' : ℕ) → ((m : Files) → old ≡ Some m → IsHeld m name)
+pub told_part : (name name' piece : List ℕ) (old new : Option Files) (loan loan' : ℕ) → ((m : Files) → old ≡ Some m → IsOnShelf m name)
     → beside_of name' new loan' ≡ beside_of name old loan → WrittenPart piece (bytes_at name old) (bytes_at name' new) → AppendsPart name piece old new
-told_part name name' piece old new loan loan' held beside part = (part.0, part.1, part.2, told_appended name name' part.0 old new loan loan' held beside part.3)
+told_part name name' piece old new loan loan' files_of beside part = (part.0, part.1, part.2, told_appended name name' part.0 old new loan loan' files_of beside part.3)

@@ -1,4 +1,4 @@
 pub mod Calls
 pub mod Counts
-pub mod Held
+pub mod MapFiles
 pub mod OneFile

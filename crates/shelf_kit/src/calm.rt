@@ -1,6 +1,6 @@
 ghost use Rattle.std.specs.Prelude.{◌≡◌, ◌≤◌, ◌↔◌, [], ◌++◌, length, Some, None, OnOk, OnErr, IsOk, IsErrOf};
-ghost use Rattle.vtr_base.specs.Outside.{file, with_file, bytes_of, IsHeld, IsHeldLonger};
-ghost use Rattle.shelf_kit.specs.Held.{held};
+ghost use Rattle.vtr_base.specs.Outside.{file, with_file, bytes_of, IsOnShelf, IsLongerOnShelf};
+ghost use Rattle.shelf_kit.specs.MapFiles.{files_of};
 
 use crate::file_map::FileMap;
 use std::alloc::Global;
@@ -15,7 +15,7 @@ pub struct CalmShelf {
 
 impl CalmShelf {
     pub fn new(alloc: Global, files: BTreeMap<String, Vec<u8>>) -> CalmShelf
-        ensures { result.files ≡ held files }
+        ensures { result.files ≡ files_of files }
     {
         CalmShelf {
             files: FileMap::new(alloc, files),
@@ -29,12 +29,15 @@ impl Shelf for CalmShelf {
     ghost faults = { λ _. 0 };
 
     fn fetch(&mut self, name: &str, room: u64, into: &mut Vec<u8>) -> Result<(), ShelfError>
-        ensures held { self.new.files ≡ self.old.files }
+        ensures files_of { self.new.files ≡ self.old.files }
         ensures room { OnOk result (length into.new.items ≤ room) }
         ensures found { OnOk result (file self.old.files name.now ≡ Some into.new.items) }
         ensures nothing { OnErr result (into.new.items ≡ []) }
-        ensures missing { IsErrOf result ShelfError.Missing ↔ (file self.old.files name.now ≡ None) }
-        ensures too_long { IsErrOf result ShelfError.TooLong ↔ IsHeldLonger self.old.files name.now room }
+        ensures missing { IsErrOf result ShelfError.Missing ↔
+            (file self.old.files name.now ≡ None) }
+        ensures too_long { IsErrOf result ShelfError.TooLong ↔ IsLongerOnShelf self.old.files
+            name.now
+            room }
         ensures never_failed { IsErrOf result ShelfError.Failed → ⊥ }
     {
         self.files.fetch(name, room, into)
@@ -42,7 +45,8 @@ impl Shelf for CalmShelf {
 
     fn begin(&mut self, name: &str) -> Result<(), ShelfError>
         ensures ok { OnOk result (self.new.files ≡ with_file self.old.files name.now []) }
-        ensures memory { OnErr result (IsErrOf result ShelfError.OutOfMemory × self.new.files ≡ self.old.files) }
+        ensures memory { OnErr result (IsErrOf result ShelfError.OutOfMemory × self.new.files
+            ≡ self.old.files) }
     {
         match self.files.begin(name) {
             Ok(()) => Ok(()),
@@ -51,9 +55,11 @@ impl Shelf for CalmShelf {
     }
 
     fn append(&mut self, name: &str, piece: &[u8]) -> Result<(), ShelfError>
-        requires { IsHeld self.old.files name.now }
-        ensures ok { OnOk result (self.new.files ≡ with_file self.old.files name.now (bytes_of (file self.old.files name.now) ++ piece.now)) }
-        ensures memory { OnErr result (IsErrOf result ShelfError.OutOfMemory × self.new.files ≡ self.old.files) }
+        requires { IsOnShelf self.old.files name.now }
+        ensures ok { OnOk result (self.new.files ≡ with_file self.old.files name.now
+            (bytes_of (file self.old.files name.now) ++ piece.now)) }
+        ensures memory { OnErr result (IsErrOf result ShelfError.OutOfMemory × self.new.files
+            ≡ self.old.files) }
     {
         match self.files.append(name, piece) {
             Ok(()) => Ok(()),

@@ -1,6 +1,6 @@
 ghost use Rattle.std.specs.Prelude.{◌≡◌, ◌≤◌, ◌↔◌, [], ◌++◌, length, Some, None, OnOk, OnErr, IsErrOf, option_map};
-ghost use Rattle.vtr_base.specs.Outside.{file, with_file, bytes_of, IsHeld, IsHeldLonger};
-ghost use Rattle.shelf_kit.specs.Held.{held};
+ghost use Rattle.vtr_base.specs.Outside.{file, with_file, bytes_of, IsOnShelf, IsLongerOnShelf};
+ghost use Rattle.shelf_kit.specs.MapFiles.{files_of};
 
 use std::alloc::{AllocError, Global};
 use std::collections::BTreeMap;
@@ -18,18 +18,18 @@ impl Model for FileMap {
     ghost use Rattle.std.specs.Coded.{coded_ℕ, coded_list};
     ghost use Rattle.std.specs.FinMap.{code};
     ghost use Rattle.vtr_base.specs.Outside.{Files};
-    ghost use Rattle.shelf_kit.specs.Held.{held};
+    ghost use Rattle.shelf_kit.specs.MapFiles.{files_of};
 
     ghost Value = { Files };
 
     ghost coded = { code (coded_list coded_ℕ) (coded_list coded_ℕ) };
 
-    ghost view = { λ s. held s.by_name };
+    ghost view = { λ s. files_of s.by_name };
 }
 
 impl FileMap {
     pub fn new(alloc: Global, by_name: BTreeMap<String, Vec<u8>>) -> FileMap
-        ensures { result ≡ held by_name }
+        ensures { result ≡ files_of by_name }
     {
         FileMap { by_name, alloc }
     }
@@ -51,7 +51,8 @@ impl FileMap {
         ensures room { OnOk result (length into.new.items ≤ room) }
         ensures nothing { OnErr result (into.new.items ≡ []) }
         ensures missing { IsErrOf result ShelfError.Missing ↔ (file self.now name.now ≡ None) }
-        ensures too_long { IsErrOf result ShelfError.TooLong ↔ IsHeldLonger self.now name.now room }
+        ensures too_long { IsErrOf result ShelfError.TooLong ↔ IsLongerOnShelf self.now name.now
+            room }
         ensures never_failed { IsErrOf result ShelfError.Failed → ⊥ }
     {
         into.clear();
@@ -67,7 +68,7 @@ impl FileMap {
         }
     }
 
-    /// Leaves the name held with no bytes.
+    /// Leaves the name files_of with no bytes.
     pub fn begin(&mut self, name: &str) -> Result<(), AllocError>
         ensures ok { OnOk result (self.new ≡ with_file self.old name.now []) }
         ensures memory { OnErr result (self.new ≡ self.old) }
@@ -77,10 +78,11 @@ impl FileMap {
         Ok(())
     }
 
-    /// Adds the piece to the end of a file that is held.
+    /// Adds the piece to the end of a file that is files_of.
     pub fn append(&mut self, name: &str, piece: &[u8]) -> Result<(), AllocError>
-        requires { IsHeld self.old name.now }
-        ensures ok { OnOk result (self.new ≡ with_file self.old name.now (bytes_of (file self.old name.now) ++ piece.now)) }
+        requires { IsOnShelf self.old name.now }
+        ensures ok { OnOk result (self.new ≡ with_file self.old name.now
+            (bytes_of (file self.old name.now) ++ piece.now)) }
         ensures memory { OnErr result (self.new ≡ self.old) }
     {
         match self.by_name.get_mut(name) {

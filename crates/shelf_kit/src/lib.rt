@@ -7,8 +7,6 @@ mod file_map;
 mod memory;
 mod plan;
 mod real;
-#[cfg(test)]
-mod tests;
 mod through;
 
 pub use calm::{CalmShelf, QuietSink};

@@ -1,6 +1,6 @@
 ghost use Rattle.std.specs.Prelude.{◌≡◌, ◌≤◌, ◌<◌, ◌+◌, ◌⊎◌, ◌↔◌, [], ◌++◌, length, Some, None, OnOk, OnErr, IfOk, IsErr, IsErrOf, Contains, vec_len, vec_capacity};
-ghost use Rattle.vtr_base.specs.Outside.{file, with_file, bytes_of, Rose, IsHeld, IsHeldLonger, AppendsPart};
-ghost use Rattle.shelf_kit.specs.Held.{held};
+ghost use Rattle.vtr_base.specs.Outside.{file, with_file, bytes_of, Rose, IsOnShelf, IsLongerOnShelf, AppendsPart};
+ghost use Rattle.shelf_kit.specs.MapFiles.{files_of};
 ghost use Rattle.shelf_kit.specs.Calls.{TakesCall, TakesPut};
 
 use crate::file_map::FileMap;
@@ -21,7 +21,7 @@ pub struct MemShelf {
 
 impl MemShelf {
     pub fn new(alloc: Global, files: BTreeMap<String, Vec<u8>>, fails: Vec<u64>) -> MemShelf
-        ensures files { result.files ≡ held files }
+        ensures files { result.files ≡ files_of files }
         ensures fails { result.fails ≡ fails }
         ensures counts { (result.calls ≡ 0) × (result.faults ≡ 0) }
     {
@@ -41,18 +41,22 @@ impl Shelf for MemShelf {
 
     fn fetch(&mut self, name: &str, room: u64, into: &mut Vec<u8>) -> Result<(), ShelfError>
         ensures call { TakesCall self.old self.new result }
-        ensures held { self.new.files ≡ self.old.files }
+        ensures files_of { self.new.files ≡ self.old.files }
         ensures count { self.old.faults ≤ self.new.faults }
         ensures room { OnOk result (length into.new.items ≤ room) }
         ensures found { OnOk result (file self.old.files name.now ≡ Some into.new.items) }
         ensures nothing { OnErr result (into.new.items ≡ []) }
         ensures failed { IsErrOf result ShelfError.Failed → Rose self.old.faults self.new.faults }
         ensures missing { IsErrOf result ShelfError.Missing → file self.old.files name.now ≡ None }
-        ensures too_long { IsErrOf result ShelfError.TooLong → IsHeldLonger self.old.files name.now room }
+        ensures too_long { IsErrOf result ShelfError.TooLong → IsLongerOnShelf self.old.files
+            name.now
+            room }
 
-        // Want of memory is no answer where the file isn't held, or is too long.
-        ensures unheld { file self.old.files name.now ≡ None → IsErrOf result ShelfError.Missing ⊎ IsErrOf result ShelfError.Failed }
-        ensures longer { IsHeldLonger self.old.files name.now room → IsErrOf result ShelfError.TooLong ⊎ IsErrOf result ShelfError.Failed }
+        // Want of memory is no answer where the file isn't files_of, or is too long.
+        ensures unheld { file self.old.files name.now ≡ None → IsErrOf result ShelfError.Missing
+            ⊎ IsErrOf result ShelfError.Failed }
+        ensures longer { IsLongerOnShelf self.old.files name.now room → IsErrOf result
+            ShelfError.TooLong ⊎ IsErrOf result ShelfError.Failed }
     {
         into.clear();
         if starts_failing(self.fails.as_slice(), &mut self.calls, &mut self.faults) {
@@ -81,12 +85,14 @@ impl Shelf for MemShelf {
     }
 
     fn append(&mut self, name: &str, piece: &[u8]) -> Result<(), ShelfError>
-        requires { IsHeld self.old.files name.now }
+        requires { IsOnShelf self.old.files name.now }
         ensures call { TakesCall self.old self.new result }
         ensures count { self.old.faults ≤ self.new.faults }
-        ensures ok { OnOk result (self.new.files ≡ with_file self.old.files name.now (bytes_of (file self.old.files name.now) ++ piece.now)) }
+        ensures ok { OnOk result (self.new.files ≡ with_file self.old.files name.now
+            (bytes_of (file self.old.files name.now) ++ piece.now)) }
         ensures err { OnErr result (self.new.files ≡ self.old.files) }
-        ensures failed { IsErrOf result ShelfError.Failed → Rose self.old.faults self.new.faults × AppendsPart name.now piece.now (Some self.old.files) (Some self.new.files) }
+        ensures failed { IsErrOf result ShelfError.Failed → Rose self.old.faults self.new.faults
+            × AppendsPart name.now piece.now (Some self.old.files) (Some self.new.files) }
         ensures never_missing { IsErrOf result ShelfError.Missing → ⊥ }
         ensures never_long { IsErrOf result ShelfError.TooLong → ⊥ }
     {

@@ -1,5 +1,5 @@
 ghost use Rattle.std.specs.Prelude.{◌≡◌, ◌≤◌, ◌<◌, ◌+◌, ◌↔◌, ℕ, Some, None, OnOk, OnErr, IsTrue};
-ghost use Rattle.vtr_base.specs.Outside.{Files, Rose, Told, IsHeld, AppendsPart, WrittenPart, appended, written};
+ghost use Rattle.vtr_base.specs.Outside.{Files, Rose, WhereKnown, IsOnShelf, AppendsPart, WrittenPart, appended, written};
 ghost use Rattle.shelf_kit.specs.OneFile.{bytes_at, beside_of};
 
 use vtr_base::{Shelf, ShelfError, Sink, SinkFailed};
@@ -10,13 +10,13 @@ pub struct ShelfSink<'s, S: Shelf> {
     shelf: &'s mut S,
     name: &'s str,
     short_puts: u64,
-    ghost held: { (m : Files) → S.files shelf.now ≡ Some m → IsHeld m name.now },
+    ghost files_of: { (m : Files) → S.files shelf.now ≡ Some m → IsOnShelf m name.now },
 }
 
 impl<'s, S: Shelf> ShelfSink<'s, S> {
-    /// A sink over the file of that name, which is held.
+    /// A sink over the file of that name, which is files_of.
     pub fn on(shelf: &'s mut S, name: &'s str) -> ShelfSink<'s, S>
-        requires { Told (S.files shelf.old) (λ m. IsHeld m name.now) }
+        requires { WhereKnown (S.files shelf.old) (λ m. IsOnShelf m name.now) }
         ensures same_reference { result.shelf.ghost_name ≡ shelf.entry.ghost_name }
         ensures shelf { result.shelf.now ≡ shelf.old }
         ensures name { result.name.now ≡ name.now }
@@ -48,20 +48,30 @@ impl<'s, S: Shelf> Sink for ShelfSink<'s, S> {
         // What the shelf holds: its put is one append.
         ensures same_reference { self.new.shelf.ghost_name ≡ self.old.shelf.ghost_name }
         ensures name { self.new.name ≡ self.old.name }
-        ensures appended { OnOk result (S.files self.new.shelf.now ≡ appended self.old.name.now piece.now (S.files self.old.shelf.now)) }
-        ensures appended_part { OnErr result (AppendsPart self.old.name.now piece.now (S.files self.old.shelf.now) (S.files self.new.shelf.now)) }
+        ensures appended { OnOk result (S.files self.new.shelf.now ≡ appended self.old.name.now
+            piece.now (S.files self.old.shelf.now)) }
+        ensures appended_part { OnErr result (AppendsPart self.old.name.now piece.now
+            (S.files self.old.shelf.now) (S.files self.new.shelf.now)) }
 
         // What the sink tells.
-        ensures beside { beside_of self.new.name.now (S.files self.new.shelf.now) self.new.shelf.ghost_name ≡ beside_of self.old.name.now (S.files self.old.shelf.now) self.old.shelf.ghost_name }
-        ensures ok { OnOk result (bytes_at self.new.name.now (S.files self.new.shelf.now) ≡ written piece.now (bytes_at self.old.name.now (S.files self.old.shelf.now))) }
-        ensures part { OnErr result (WrittenPart piece.now (bytes_at self.old.name.now (S.files self.old.shelf.now)) (bytes_at self.new.name.now (S.files self.new.shelf.now))) }
+        ensures beside { beside_of self.new.name.now (S.files self.new.shelf.now)
+            self.new.shelf.ghost_name ≡ beside_of self.old.name.now (S.files self.old.shelf.now)
+            self.old.shelf.ghost_name }
+        ensures ok { OnOk result (bytes_at self.new.name.now (S.files self.new.shelf.now) ≡ written
+            piece.now (bytes_at self.old.name.now (S.files self.old.shelf.now))) }
+        ensures part { OnErr result (WrittenPart piece.now
+            (bytes_at self.old.name.now (S.files self.old.shelf.now))
+            (bytes_at self.new.name.now (S.files self.new.shelf.now))) }
 
         // Whose fault a failure is.
-        ensures count { S.faults self.old.shelf.now + self.old.short_puts ≤ S.faults self.new.shelf.now + self.new.short_puts }
+        ensures count { S.faults self.old.shelf.now + self.old.short_puts ≤ S.faults
+            self.new.shelf.now + self.new.short_puts }
         ensures shelf_count { S.faults self.old.shelf.now ≤ S.faults self.new.shelf.now }
         ensures short { self.old.short_puts ≤ self.new.short_puts }
-        ensures failed { OnErr result (Rose (S.faults self.old.shelf.now + self.old.short_puts) (S.faults self.new.shelf.now + self.new.short_puts)) }
-        ensures outside { OnErr result (self.new.short_puts ≡ 0 → Rose (S.faults self.old.shelf.now) (S.faults self.new.shelf.now)) }
+        ensures failed { OnErr result (Rose (S.faults self.old.shelf.now + self.old.short_puts)
+            (S.faults self.new.shelf.now + self.new.short_puts)) }
+        ensures outside { OnErr result (self.new.short_puts ≡ 0 → Rose (S.faults self.old.shelf.now)
+            (S.faults self.new.shelf.now)) }
         ensures calm { OnOk result (self.new.short_puts ≡ self.old.short_puts) }
     {
         match self.shelf.append(self.name, piece) {

@@ -3,7 +3,7 @@ use Rattle.std.proofs.Common.{◌≡◌, ◌==◌, ◌<◌, ◌+◌, ℕ, Bool, 
 use Rattle.std.specs.List.{AllPass}
 use Rattle.std.proofs.lemmas.Bool.Decides.{nat_tests}
 use Rattle.std.proofs.lemmas.List.Elements.{All-head, All-tail}
-use Rattle.vtr_base.specs.Spans.{is_white, is_dark, Lacks, Stops, IsSpan}
+use Rattle.vtr_base.specs.Spans.{is_white, is_word_byte, Lacks, Stops, IsSpan}
 use Rattle.text_parts.specs.declared.digits.Number.{Number}
 use Rattle.text_parts.specs.declared.digits.Number.TheVariants.{NoDigits, Over, Value}
 use Rattle.text_parts.specs.Numerals.{Reads}
@@ -59,14 +59,14 @@ behind_passes p [] x h = h
 behind_passes p (a ∷ es) x h = behind_passes p es x (All-tail (λ v. p v ≡ true) a (es ++ x) h)
 
 -- white space alone holds no word
-pub no_word : (text gap behind word rest : List ℕ) → AllPass is_white text → IsSpan is_white text gap behind → IsSpan is_dark behind word rest → 0 < length word → ⊥
+pub no_word : (text gap behind word rest : List ℕ) → AllPass is_white text → IsSpan is_white text gap behind → IsSpan is_word_byte behind word rest → 0 < length word → ⊥
 no_word text gap behind [] rest white s w some = omega arith
 no_word text gap behind (c ∷ cs) rest white s w some =
     let all : AllPass is_white (gap ++ behind) = subst (AllPass is_white) s.spelled white in
     let tail : AllPass is_white (c ∷ (cs ++ rest)) = subst (AllPass is_white) w.spelled (behind_passes is_white gap behind all) in
     let bright : is_white c ≡ true = All-head (λ v. is_white v ≡ true) c (cs ++ rest) tail in
-    let dark : not (is_white c) ≡ true = All-head (λ v. is_dark v ≡ true) c cs w.all in
-    not_both (is_white c) bright (unnot (is_white c) dark)
+    let word_and_rest : not (is_white c) ≡ true = All-head (λ v. is_word_byte v ≡ true) c cs w.all in
+    not_both (is_white c) bright (unnot (is_white c) word_and_rest)
   where
     unnot : (v : Bool) → not v ≡ true → v ≡ false
     unnot true e = cc
@@ -82,8 +82,8 @@ one_words place text [] (w ∷ ws) of_vs of_ws = absurd (no_word text of_ws.0 of
 one_words place text (v ∷ vs) [] of_vs of_ws = absurd (no_word text of_vs.0 of_vs.1 v.text of_vs.2 of_ws of_vs.3 of_vs.4 of_vs.5)
 one_words place text (v ∷ vs) (w ∷ ws) of_vs of_ws =
     let gaps = same_span is_white text of_vs.0 of_vs.1 of_ws.0 of_ws.1 of_vs.3 of_ws.3 in
-    let here : IsSpan is_dark of_ws.1 v.text of_vs.2 = subst (λ b. IsSpan is_dark b v.text of_vs.2) gaps.1 of_vs.4 in
-    let texts = same_span is_dark of_ws.1 v.text of_vs.2 w.text of_ws.2 here of_ws.4 in
+    let here : IsSpan is_word_byte of_ws.1 v.text of_vs.2 = subst (λ b. IsSpan is_word_byte b v.text of_vs.2) gaps.1 of_vs.4 in
+    let texts = same_span is_word_byte of_ws.1 v.text of_vs.2 w.text of_ws.2 here of_ws.4 in
     let at : v.at ≡ w.at = omega (arith, of_vs.6, of_ws.6, ap length gaps.0) in
     let next : place + length of_vs.0 + length v.text ≡ place + length of_ws.0 + length w.text = omega (arith, ap length gaps.0, ap length texts.0) in
     let moved : AreWordsFrom (place + length of_ws.0 + length w.text) of_vs.2 vs = subst (λ n. AreWordsFrom n of_vs.2 vs) next of_vs.7 in

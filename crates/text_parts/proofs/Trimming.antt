@@ -19,7 +19,7 @@ cut_all text inner left none is white = record {
 
 pub cut_here : (text inner : List ℕ) (left b : ℕ) → 0 < left → left ≤ length text → b ≡ get_or text (left - 1) 0 → is_white b ≡ false →
     AllPass is_white (drop left text) → inner ≡ take (left - 1 + 1) text → IsCutAtEnd text inner
-cut_here text inner left b some within at dark white is =
+cut_here text inner left b some within at word_and_rest white is =
     let next : left - 1 + 1 ≡ left = omega arith in
     let cut : inner ≡ take left text = is ∙ ap (λ n. take n text) next in
     let whole : inner ≡ take (left - 1) text ++ get_or text (left - 1) 0 ∷ [] = is ∙ take_more text (left - 1) 0 (omega arith) in
@@ -29,7 +29,7 @@ cut_here text inner left b some within at dark white is =
       white = white;
       ends = λ front c e.
           (let last = (same_from_push (take (left - 1) text) front (get_or text (left - 1) 0) c (sym whole ∙ e)).1 in
-          subst (λ v. is_white v ≡ false) (at ∙ last) dark);
+          subst (λ v. is_white v ≡ false) (at ∙ last) word_and_rest);
     }
 
 front_stops : (inner back : List ℕ) → Stops is_white (inner ++ back) → Stops is_white inner

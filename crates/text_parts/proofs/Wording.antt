@@ -4,7 +4,7 @@ use Rattle.std.specs.List.{AllPass}
 use Rattle.std.proofs.lemmas.List.{map-append}
 use Rattle.std.proofs.lemmas.Bool.Decides.{nat_tests}
 use Rattle.std.proofs.lemmas.List.Elements.{All-append, All-nil}
-use Rattle.vtr_base.specs.Spans.{is_white, is_dark, Stops, IsSpan}
+use Rattle.vtr_base.specs.Spans.{is_white, is_word_byte, Stops, IsSpan}
 use Rattle.text_parts.specs.declared.by_word.Word.{Word}
 use Rattle.text_parts.specs.Seen.{seen}
 use Rattle.text_parts.specs.Words.{WordAt, AreWordsFrom}
@@ -40,28 +40,28 @@ left_starts text gap rest s =
       fits = omega (arith, ap length s.spelled, length-append gap rest);
     }
 
-some_word : (rest word behind : List ℕ) → (length rest ≡ 0 → ⊥) → Stops is_white rest → IsSpan is_dark rest word behind → 0 < length word
+some_word : (rest word behind : List ℕ) → (length rest ≡ 0 → ⊥) → Stops is_white rest → IsSpan is_word_byte rest word behind → 0 < length word
 some_word [] word behind some stops s = absurd (some refl)
 some_word (r ∷ rs) [] behind some stops s =
-    let dark_stops : not (is_white r) ≡ false = subst (Stops is_dark) (sym s.spelled) s.stops in
-    absurd (dark (is_white r) stops dark_stops)
+    let dark_stops : not (is_white r) ≡ false = subst (Stops is_word_byte) (sym s.spelled) s.stops in
+    absurd (word_and_rest (is_white r) stops dark_stops)
   where
-    dark : (v : Bool) → v ≡ false → not v ≡ false → ⊥
-    dark v a b = cc
+    word_and_rest : (v : Bool) → v ≡ false → not v ≡ false → ⊥
+    word_and_rest v a b = cc
 some_word (r ∷ rs) (w ∷ ws) behind some stops s = omega arith
 
-pub left_shrinks : (rest word behind gap after : List ℕ) → (length rest ≡ 0 → ⊥) → Stops is_white rest → IsSpan is_dark rest word behind →
+pub left_shrinks : (rest word behind gap after : List ℕ) → (length rest ≡ 0 → ⊥) → Stops is_white rest → IsSpan is_word_byte rest word behind →
     IsSpan is_white behind gap after → length rest ≡ length word + length gap + length after
 left_shrinks rest word behind gap after some stops s g =
     omega (arith, ap length s.spelled, ap length g.spelled, length-append word behind, length-append gap after)
 
-pub left_less : (rest word behind gap after : List ℕ) → (length rest ≡ 0 → ⊥) → Stops is_white rest → IsSpan is_dark rest word behind →
+pub left_less : (rest word behind gap after : List ℕ) → (length rest ≡ 0 → ⊥) → Stops is_white rest → IsSpan is_word_byte rest word behind →
     IsSpan is_white behind gap after → length after < length rest
 left_less rest word behind gap after some stops s g =
     omega (arith, some_word rest word behind some stops s, left_shrinks rest word behind gap after some stops s g)
 
 pub left_goes_on : (text : List ℕ) (place : ℕ) (rest word behind gap after : List ℕ) (found : List WordAt) → (length rest ≡ 0 → ⊥) →
-    IsLeft text place rest found → IsSpan is_dark rest word behind → IsSpan is_white behind gap after →
+    IsLeft text place rest found → IsSpan is_word_byte rest word behind → IsSpan is_white behind gap after →
     IsLeft text (place + (length word + length gap)) after (found ++ record { text = word; at = place } ∷ [])
 left_goes_on text place rest word behind gap after found some left s g = record {
   completes = λ more are.

@@ -4,15 +4,15 @@ use Rattle.std.specs.List.{AllPass}
 use Rattle.vtr_base.specs.Spans.{is_white, Stops}
 
 -- the text doesn't end in white space
-abbrev pub EndsDark : List ℕ → Type 0
-EndsDark text = (front : List ℕ) (b : ℕ) → text ≡ front ++ b ∷ [] → is_white b ≡ false
+abbrev pub EndsInWord : List ℕ → Type 0
+EndsInWord text = (front : List ℕ) (b : ℕ) → text ≡ front ++ b ∷ [] → is_white b ≡ false
 
 -- `inner` is the text without the white space at its end
 pub record IsCutAtEnd (text inner : List ℕ) : Type 0 where
   pub back : List ℕ
   pub spelled : text ≡ inner ++ back
   pub white : AllPass is_white back
-  pub ends : EndsDark inner
+  pub ends : EndsInWord inner
 
 -- `inner` is the text without the white space at its start and at its end
 pub record IsTrimmed (text inner : List ℕ) : Type 0 where
@@ -22,4 +22,4 @@ pub record IsTrimmed (text inner : List ℕ) : Type 0 where
   pub front_white : AllPass is_white front
   pub back_white : AllPass is_white back
   pub starts : Stops is_white inner
-  pub ends : EndsDark inner
+  pub ends : EndsInWord inner

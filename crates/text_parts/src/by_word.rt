@@ -1,6 +1,6 @@
 ghost use Rattle.std.specs.Prelude.{◌≡◌, ◌==◌, map, IfOk};
 ghost use Rattle.std.specs.List.{slice_split};
-ghost use Rattle.vtr_base.specs.Spans.{is_white, is_dark, IsSpan};
+ghost use Rattle.vtr_base.specs.Spans.{is_white, is_word_byte, IsSpan};
 ghost use Rattle.text_parts.specs.Words.{AreWordsFrom};
 ghost use Rattle.text_parts.specs.Trims.{IsTrimmed, IsCutAtEnd};
 ghost use Rattle.text_parts.specs.Seen.{seen};
@@ -24,7 +24,7 @@ pub fn words<'a>(alloc: Global, text: &'a [u8]) -> Result<Vec<Word<'a>>, AllocEr
     let (gap, mut rest) = white(text);
     let mut at = gap.len();
     while !rest.is_empty() {
-        let (word, behind) = dark(rest);
+        let (word, behind) = word_and_rest(rest);
         found.push(Word { text: word, at })?;
         let (gap, after) = white(behind);
         at += word.len() + gap.len();
@@ -53,8 +53,8 @@ fn white(text: &[u8]) -> (&[u8], &[u8])
 }
 
 /// What stands in front of the first white space, and what follows.
-fn dark(text: &[u8]) -> (&[u8], &[u8])
-    ensures { IsSpan is_dark text.now result.0.now result.1.now }
+fn word_and_rest(text: &[u8]) -> (&[u8], &[u8])
+    ensures { IsSpan is_word_byte text.now result.0.now result.1.now }
 {
     let Some(end) = text.iter().position(|b| is_white_byte(*b)) else {
         return text.split_at(text.len());

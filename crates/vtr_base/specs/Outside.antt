@@ -15,12 +15,12 @@ file = map.get
 abbrev pub with_file : Files → List ℕ → List ℕ → Files
 with_file = map.insert
 
-abbrev pub IsHeld : Files → List ℕ → Type 0
-IsHeld m name = IsSome (file m name)
+abbrev pub IsOnShelf : Files → List ℕ → Type 0
+IsOnShelf m name = IsSome (file m name)
 
 -- the file of that name is there and has more bytes than there is room for
-abbrev pub IsHeldLonger : Files → List ℕ → ℕ → Type 0
-IsHeldLonger m name room = (bytes : List ℕ) × (file m name ≡ Some bytes) × (room < length bytes)
+abbrev pub IsLongerOnShelf : Files → List ℕ → ℕ → Type 0
+IsLongerOnShelf m name room = (bytes : List ℕ) × (file m name ≡ Some bytes) × (room < length bytes)
 
 -- what stands beside the bytes of a sink that writes into one file of a shelf: the file's name,
 -- where the shelf tells them all files but this one, and the borrow of the shelf that the sink
@@ -36,9 +36,9 @@ abbrev pub Rose : ℕ → ℕ → Type 0
 Rose old new = (old < new) ⊎ (18446744073709551615 ≤ new)
 
 -- where files are told, this is said of them
-abbrev pub Told : Option Files → (Files → Type 0) → Type 0
-Told None P = Unit {0}
-Told (Some m) P = P m
+abbrev pub WhereKnown : Option Files → (Files → Type 0) → Type 0
+WhereKnown None P = Unit {0}
+WhereKnown (Some m) P = P m
 
 -- the named file is there and has no bytes, and all else is as before
 abbrev pub begun : List ℕ → Option Files → Option Files

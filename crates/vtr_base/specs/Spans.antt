@@ -6,8 +6,8 @@ use Rattle.std.specs.List.{AllPass}
 abbrev pub is_white : ℕ → Bool
 is_white b = (b == 32) || ((b == 9) || ((b == 10) || (b == 13)))
 
-abbrev pub is_dark : ℕ → Bool
-is_dark b = not (is_white b)
+abbrev pub is_word_byte : ℕ → Bool
+is_word_byte b = not (is_white b)
 
 -- the byte doesn't stand in the text
 abbrev pub Lacks : List ℕ → ℕ → Type 0
@@ -28,7 +28,7 @@ pub record IsSpan (p : ℕ → Bool) (text front rest : List ℕ) : Type 0 where
 abbrev pub AreWords : List ℕ → List (List ℕ) → Type 0
 AreWords text [] = AllPass is_white text
 AreWords text (word ∷ words) =
-    (gap behind rest : List ℕ) × IsSpan is_white text gap behind × IsSpan is_dark behind word rest × (0 < length word) × AreWords rest words
+    (gap behind rest : List ℕ) × IsSpan is_white text gap behind × IsSpan is_word_byte behind word rest × (0 < length word) × AreWords rest words
 
 -- the text is cut at the first place at which the byte stands
 pub record IsCut (text : List ℕ) (b : ℕ) (front rest : List ℕ) : Type 0 where

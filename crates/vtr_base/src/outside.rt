@@ -1,5 +1,5 @@
 ghost use Rattle.std.specs.Prelude.{◌≡◌, ◌≤◌, ◌<◌, ℕ, List, [], Option, Some, None, OnOk, OnErr, IsErrOf, length};
-ghost use Rattle.vtr_base.specs.Outside.{Files, file, Beside, Rose, Told, IsHeld, IsHeldLonger, written, WrittenPart, BeginsPart, AppendsPart, appended, begun};
+ghost use Rattle.vtr_base.specs.Outside.{Files, file, Beside, Rose, WhereKnown, IsOnShelf, IsLongerOnShelf, written, WrittenPart, BeginsPart, AppendsPart, appended, begun};
 
 use thiserror::Error;
 
@@ -38,29 +38,36 @@ pub trait Shelf {
         ensures held { files self.new ≡ files self.old }
         ensures count { faults self.old ≤ faults self.new }
         ensures room { OnOk result (length into.new.items ≤ room) }
-        ensures found { OnOk result (Told (files self.old) (λ m. file m name.now ≡ Some into.new.items)) }
+        ensures found { OnOk result (WhereKnown (files self.old)
+            (λ m. file m name.now ≡ Some into.new.items)) }
         ensures nothing { OnErr result (into.new.items ≡ []) }
-        ensures failed { IsErrOf result ShelfError.Failed → Rose (faults self.old) (faults self.new) }
-        ensures calm_missing { IsErrOf result ShelfError.Missing → faults self.new ≡ faults self.old }
+        ensures failed { IsErrOf result ShelfError.Failed → Rose (faults self.old)
+            (faults self.new) }
+        ensures calm_missing { IsErrOf result ShelfError.Missing → faults self.new ≡ faults
+            self.old }
         ensures calm_long { IsErrOf result ShelfError.TooLong → faults self.new ≡ faults self.old }
-        ensures missing { IsErrOf result ShelfError.Missing → Told (files self.old) (λ m. file m name.now ≡ None) }
-        ensures too_long { IsErrOf result ShelfError.TooLong → Told (files self.old) (λ m. IsHeldLonger m name.now room) };
+        ensures missing { IsErrOf result ShelfError.Missing → WhereKnown (files self.old)
+            (λ m. file m name.now ≡ None) }
+        ensures too_long { IsErrOf result ShelfError.TooLong → WhereKnown (files self.old)
+            (λ m. IsLongerOnShelf m name.now room) };
 
     /// Leaves the name held with no bytes.
     fn begin(&mut self, name: &str) -> Result<(), ShelfError>
         ensures count { faults self.old ≤ faults self.new }
         ensures ok { OnOk result (files self.new ≡ begun name.now (files self.old)) }
-        ensures failed { IsErrOf result ShelfError.Failed → Rose (faults self.old) (faults self.new) × BeginsPart name.now (files self.old) (files self.new) }
+        ensures failed { IsErrOf result ShelfError.Failed → Rose (faults self.old) (faults self.new)
+            × BeginsPart name.now (files self.old) (files self.new) }
         ensures memory { IsErrOf result ShelfError.OutOfMemory → files self.new ≡ files self.old }
         ensures never_missing { IsErrOf result ShelfError.Missing → ⊥ }
         ensures never_long { IsErrOf result ShelfError.TooLong → ⊥ };
 
     /// Adds the piece to the end of a file that is held.
     fn append(&mut self, name: &str, piece: &[u8]) -> Result<(), ShelfError>
-        requires { Told (files self.old) (λ m. IsHeld m name.now) }
+        requires { WhereKnown (files self.old) (λ m. IsOnShelf m name.now) }
         ensures count { faults self.old ≤ faults self.new }
         ensures ok { OnOk result (files self.new ≡ appended name.now piece.now (files self.old)) }
-        ensures failed { IsErrOf result ShelfError.Failed → Rose (faults self.old) (faults self.new) × AppendsPart name.now piece.now (files self.old) (files self.new) }
+        ensures failed { IsErrOf result ShelfError.Failed → Rose (faults self.old) (faults self.new)
+            × AppendsPart name.now piece.now (files self.old) (files self.new) }
         ensures memory { IsErrOf result ShelfError.OutOfMemory → files self.new ≡ files self.old }
         ensures never_missing { IsErrOf result ShelfError.Missing → ⊥ }
         ensures never_long { IsErrOf result ShelfError.TooLong → ⊥ };

@@ -12,8 +12,8 @@ pub loop-rest-preserved : goal.loop-rest-preserved
 loop-rest-preserved c =
     let some = is_empty_false (length c.loop-rest.rest.now) c.is_empty.result c.is_empty.ensures c.loop-rest-test.true in
     left_pushed c.args.text.now _ c.white-in-loop-rest.result.1.now c.loop-rest.found.items c.push.new.self.items _ c.in_ok-push.ensures.items
-    (left_goes_on c.args.text.now c.loop-rest.at c.loop-rest.rest.now c.dark.result.0.now c.dark.result.1.now c.white-in-loop-rest.result.0.now
-    c.white-in-loop-rest.result.1.now (map seen c.loop-rest.found.items) some c.loop-rest.invariant c.dark.ensures c.white-in-loop-rest.ensures)
+    (left_goes_on c.args.text.now c.loop-rest.at c.loop-rest.rest.now c.word_and_rest.result.0.now c.word_and_rest.result.1.now c.white-in-loop-rest.result.0.now
+    c.white-in-loop-rest.result.1.now (map seen c.loop-rest.found.items) some c.loop-rest.invariant c.word_and_rest.ensures c.white-in-loop-rest.ensures)
 
 pub returns : goal.returns
 returns c =

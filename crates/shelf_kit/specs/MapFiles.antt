@@ -5,5 +5,5 @@ use Rattle.std.specs.FinMap.{from_entries}
 use Rattle.vtr_base.specs.Outside.{Files}
 
 -- the finite map from the bytes of each name to the bytes of its file
-abbrev pub held : {Y Z : Type 0} → BTreeMap (String Y) (Vec ℕ Z) → Files
-held m = from_entries (map (λ e. (string_bytes e.0, vec_items e.1)) m.entries)
+abbrev pub files_of : {Y Z : Type 0} → BTreeMap (String Y) (Vec ℕ Z) → Files
+files_of m = from_entries (map (λ e. (string_bytes e.0, vec_items e.1)) m.entries)
