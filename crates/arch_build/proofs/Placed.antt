@@ -1,11 +1,11 @@
--- Places of names, one name more.
+-- NamePlaces of names, one name more.
 use Rattle.std.proofs.Common.{◌≡◌, ◌+◌, ◌<◌, ℕ, Bool, true, false, cond, List, [], ◌∷◌, ◌++◌, Some, None, length, take, get_or, map, zero, suc, refl, sym, ◌∙◌, ap, arith, add-one, length-take-le}
 use Rattle.std.proofs.lemmas.List.{length-map}
 use Rattle.std.specs.Option.{option_or, option_map}
 use Rattle.std.specs.Str.{bytes_eq}
 use Rattle.std.specs.Borrow.{Bor}
 use Rattle.std.specs.HashMap.{HashMap}
-use Rattle.arch_build.specs.Places.{found_place, ArePlaces, AddsPlace}
+use Rattle.arch_build.specs.NamePlaces.{found_place, ArePlaces, AddsPlace}
 
 found_more : (names : List (List ℕ)) (name q : List ℕ) →
     found_place (names ++ name ∷ []) q ≡ option_or (found_place names q) (cond (bytes_eq name q) (Some (length names)) None)

@@ -29,7 +29,7 @@ use Rattle.elem_text.specs.declared.elem.Attr.{Attr}
 use Rattle.elem_text.specs.declared.elem.Elem.{Elem, Elem', Row_of-Elem, end_of-Elem, more_of-Elem, out-Elem}
 use Rattle.elem_attrs.specs.Attributes.{value_of, attr_of, has_tag}
 use Rattle.elem_attrs.specs.Numbers.{number_up_to, signed_number}
-use Rattle.arch_build.specs.Places.{place_of}
+use Rattle.arch_build.specs.NamePlaces.{place_of}
 
 abbrev pub inside : Elem → List Elem
 inside e = (out-Elem e).kids

@@ -4,7 +4,7 @@ ghost use Rattle.arch_build.specs.Said.{inside, within, said_block, said_mode, s
 
 use crate::inter::{inters_in, metas_in};
 use crate::part::{copied, count_in};
-use crate::places::Places;
+use crate::places::NamePlaces;
 use crate::port::ports_in;
 use arch_types::{Kind, Mode, PbType};
 use elem_attrs::{attribute, has_tag};
@@ -16,11 +16,12 @@ use vtr_base::Text;
 /// Adds the block types in an element that is a list of them.
 pub(crate) fn push_list(
     alloc: Global,
-    models: &Places<'_>,
+    models: &NamePlaces<'_>,
     blocks: &mut Items<PbType>,
     list: &Elem,
 ) -> Result<(), AllocError>
-    ensures { OnOk result (blocks.new ≡ blocks.old ++ within (codes "complexblocklist") (said_block models.now) list.now) }
+    ensures { OnOk result (blocks.new ≡ blocks.old ++ within (codes "complexblocklist")
+        (said_block models.now) list.now) }
 {
     if has_tag(list, b"complexblocklist") {
         for elem in list.kids.as_slice() {
@@ -41,7 +42,7 @@ struct Children {
 #[cycle(blocks)]
 fn push_block(
     alloc: Global,
-    models: &Places<'_>,
+    models: &NamePlaces<'_>,
     elem: &Elem,
     blocks: &mut Items<PbType>,
 ) -> Result<(), AllocError>
@@ -71,7 +72,7 @@ fn push_block(
 #[cycle(blocks)]
 fn push_mode(
     alloc: Global,
-    models: &Places<'_>,
+    models: &NamePlaces<'_>,
     elem: &Elem,
     modes: &mut Items<Mode>,
 ) -> Result<(), AllocError>
@@ -91,8 +92,13 @@ fn push_mode(
 }
 
 #[cycle(blocks)]
-fn children_of(alloc: Global, models: &Places<'_>, elems: &[Elem]) -> Result<Children, AllocError>
-    ensures { IfOk result (λ c. (c.modes ≡ flat_map (said_mode models.now) elems.now) × (c.blocks ≡ flat_map (said_block models.now) elems.now)) }
+fn children_of(
+    alloc: Global,
+    models: &NamePlaces<'_>,
+    elems: &[Elem],
+) -> Result<Children, AllocError>
+    ensures { IfOk result (λ c. (c.modes ≡ flat_map (said_mode models.now) elems.now)
+        × (c.blocks ≡ flat_map (said_block models.now) elems.now)) }
 {
     let mut modes = Items::new(alloc);
     let mut blocks = Items::new(alloc);
@@ -109,7 +115,8 @@ fn modes_or_default(
     children: Children,
     elem: &Elem,
 ) -> Result<Items<Mode>, AllocError>
-    ensures { IfOk result (λ modes. modes ≡ modes_or_default children.modes children.blocks (said_inters (inside elem.now))) }
+    ensures { IfOk result (λ modes. modes ≡ modes_or_default children.modes children.blocks
+        (said_inters (inside elem.now))) }
 {
     let mut modes = children.modes;
     if modes.is_empty() {
@@ -125,7 +132,7 @@ fn modes_or_default(
 }
 
 /// The kind of a leaf. The model of a box is named behind `.subckt` and a space.
-fn leaf_kind(models: &Places<'_>, text: &[u8]) -> Kind
+fn leaf_kind(models: &NamePlaces<'_>, text: &[u8]) -> Kind
     ensures { result ≡ leaf_kind models.now text.now }
 {
     if text == b".input".as_slice() {

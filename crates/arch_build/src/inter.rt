@@ -54,7 +54,8 @@ pub(crate) fn inters_in(alloc: Global, owner: &Elem) -> Result<Items<Inter>, All
 }
 
 fn push_inters(alloc: Global, inters: &mut Items<Inter>, elem: &Elem) -> Result<(), AllocError>
-    ensures { OnOk result (inters.new ≡ inters.old ++ within (codes "interconnect") said_inter elem.now) }
+    ensures { OnOk result (inters.new ≡ inters.old ++ within (codes "interconnect") said_inter
+        elem.now) }
 {
     if has_tag(elem, b"interconnect") {
         for inter in elem.kids.as_slice() {

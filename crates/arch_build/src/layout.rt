@@ -21,7 +21,8 @@ pub(crate) fn push_layouts(
     layouts: &mut Items<Layout>,
     list: &Elem,
 ) -> Result<(), AllocError>
-    ensures { OnOk result (layouts.new ≡ layouts.old ++ within (codes "layout") said_layout list.now) }
+    ensures { OnOk result (layouts.new ≡ layouts.old ++ within (codes "layout") said_layout
+        list.now) }
 {
     if has_tag(list, b"layout") {
         for elem in list.kids.as_slice() {
@@ -84,7 +85,8 @@ fn push_single(alloc: Global, singles: &mut Items<Single>, elem: &Elem) -> Resul
 }
 
 fn priority_of(elem: &Elem) -> Option<i64>
-    ensures { result ≡ option_and_then signed_number (value_of (out-Elem elem.now).attrs (codes "priority")) }
+    ensures { result ≡ option_and_then signed_number
+        (value_of (out-Elem elem.now).attrs (codes "priority")) }
 {
     signed_number(attribute(elem, b"priority")?.as_bytes())
 }

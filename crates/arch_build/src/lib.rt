@@ -1,5 +1,5 @@
-//! What the root element of an architecture file says, as the parts of an architecture. No rule of the format is
-//! tested here.
+//! What the root element of an architecture file says, as the parts of an architecture. No rule of
+//! the format is tested here.
 #![tactic(auto)]
 
 mod block;
@@ -10,9 +10,7 @@ mod part;
 mod places;
 mod port;
 mod said;
-#[cfg(test)]
-mod tests;
 mod tile;
 
-pub use places::Places;
+pub use places::NamePlaces;
 pub use said::arch_said;

@@ -42,7 +42,8 @@ fn push_model(alloc: Global, models: &mut Items<CellModel>, elem: &Elem) -> Resu
 
 /// The names of the ports of a model in its lists of that name.
 fn port_names(alloc: Global, model: &Elem, list: &[u8]) -> Result<Items<Text>, AllocError>
-    ensures { IfOk result (λ names. names ≡ flat_map (within list.now said_port_name) (inside model.now)) }
+    ensures { IfOk result (λ names. names ≡ flat_map (within list.now said_port_name)
+        (inside model.now)) }
 {
     let mut names = Items::new(alloc);
     for elem in model.kids.as_slice() {

@@ -1,6 +1,6 @@
 ghost use Rattle.std.specs.Option.{is_some};
 ghost use Rattle.std.specs.Prelude.{◌≡◌, ◌≤◌, ◌<◌, ◌^◌, IfOk, OnOk, length, map, take};
-ghost use Rattle.arch_build.specs.Places.{ArePlaces, found_place, place_of, AddsPlace};
+ghost use Rattle.arch_build.specs.NamePlaces.{ArePlaces, found_place, place_of, AddsPlace};
 ghost use Rattle.arch_types.specs.Models.{model_names};
 ghost use Rattle.arch_types.specs.Tree.{block_names};
 
@@ -11,46 +11,47 @@ use std::marker::Model;
 
 /// A list of names that tells of each name its first place. Contracts see it as the list.
 #[derive(Drop)]
-pub struct Places<'a> {
+pub struct NamePlaces<'a> {
     names: Vec<&'a [u8]>,
     first: HashMap<&'a [u8], u32>,
 }
 
-impl<'a> Model for Places<'a> {
+impl<'a> Model for NamePlaces<'a> {
     ghost use Rattle.std.specs.Prelude.{List, ℕ, ◌<◌, ◌^◌, map, length};
-    ghost use Rattle.arch_build.specs.Places.{ArePlaces};
+    ghost use Rattle.arch_build.specs.NamePlaces.{ArePlaces};
 
     ghost Value = { List (List ℕ) };
 
     ghost view = { λ p. map (λ n. n.now) p.names.items };
 
-    ghost invariant = { λ p. ArePlaces (map (λ n. n.now) p.names.items) p.first × (length p.names.items < 2 ^ 32) };
+    ghost invariant = { λ p. ArePlaces (map (λ n. n.now) p.names.items) p.first
+        × (length p.names.items < 2 ^ 32) };
 }
 
-impl<'a> Places<'a> {
+impl<'a> NamePlaces<'a> {
     /// The places of these names. A list of 2^32 names or more is told as want of memory.
-    fn of(alloc: Global, names: Vec<&'a [u8]>) -> Result<Places<'a>, AllocError>
+    fn of(alloc: Global, names: Vec<&'a [u8]>) -> Result<NamePlaces<'a>, AllocError>
         ensures { IfOk result (λ p. p ≡ map (λ n. n.now) names.entry.items) }
     {
         if names.len() > u32::MAX as usize {
             return Err(AllocError);
         }
         let first = first_places(alloc, names.as_slice())?;
-        Ok(Places { names, first })
+        Ok(NamePlaces { names, first })
     }
 
     /// The names of models.
-    pub fn of_models(alloc: Global, models: &'a [CellModel]) -> Result<Places<'a>, AllocError>
+    pub fn of_models(alloc: Global, models: &'a [CellModel]) -> Result<NamePlaces<'a>, AllocError>
         ensures { IfOk result (λ p. p ≡ model_names models.now) }
     {
-        Places::of(alloc, names_of_models(alloc, models)?)
+        NamePlaces::of(alloc, names_of_models(alloc, models)?)
     }
 
     /// The names of block types.
-    pub fn of_blocks(alloc: Global, blocks: &'a [PbType]) -> Result<Places<'a>, AllocError>
+    pub fn of_blocks(alloc: Global, blocks: &'a [PbType]) -> Result<NamePlaces<'a>, AllocError>
         ensures { IfOk result (λ p. p ≡ block_names blocks.now) }
     {
-        Places::of(alloc, names_of_blocks(alloc, blocks)?)
+        NamePlaces::of(alloc, names_of_blocks(alloc, blocks)?)
     }
 
     /// Whether the name stands in the list.

@@ -6,7 +6,7 @@ ghost use Rattle.arch_types.specs.Tree.{block_names};
 use crate::block::push_list;
 use crate::layout::push_layouts;
 use crate::model::push_models;
-use crate::places::Places;
+use crate::places::NamePlaces;
 use crate::tile::push_tiles;
 use arch_types::{ArchParts, CellModel, Layout, PbType, Tile};
 use elem_text::Elem;
@@ -45,12 +45,16 @@ fn models_in(alloc: Global, root: &Elem) -> Result<Items<CellModel>, AllocError>
 fn blocks_in(alloc: Global, models: &[CellModel], root: &Elem) -> Result<Items<PbType>, AllocError>
     ensures { IfOk result (λ blocks. blocks ≡ said_blocks (model_names models.now) root.now) }
 {
-    let places = Places::of_models(alloc, models)?;
+    let places = NamePlaces::of_models(alloc, models)?;
     blocks_with(alloc, &places, root)
 }
 
 /// The block types, with the models of boxes by their places among these names.
-fn blocks_with(alloc: Global, models: &Places<'_>, root: &Elem) -> Result<Items<PbType>, AllocError>
+fn blocks_with(
+    alloc: Global,
+    models: &NamePlaces<'_>,
+    root: &Elem,
+) -> Result<Items<PbType>, AllocError>
     ensures { IfOk result (λ blocks. blocks ≡ said_blocks models.now root.now) }
 {
     let mut blocks = Items::new(alloc);
@@ -63,12 +67,16 @@ fn blocks_with(alloc: Global, models: &Places<'_>, root: &Elem) -> Result<Items<
 fn tiles_in(alloc: Global, blocks: &[PbType], root: &Elem) -> Result<Items<Tile>, AllocError>
     ensures { IfOk result (λ tiles. tiles ≡ said_tiles (block_names blocks.now) root.now) }
 {
-    let places = Places::of_blocks(alloc, blocks)?;
+    let places = NamePlaces::of_blocks(alloc, blocks)?;
     tiles_with(alloc, &places, root)
 }
 
 /// The tiles, with the block types of sites by their places among these names.
-fn tiles_with(alloc: Global, blocks: &Places<'_>, root: &Elem) -> Result<Items<Tile>, AllocError>
+fn tiles_with(
+    alloc: Global,
+    blocks: &NamePlaces<'_>,
+    root: &Elem,
+) -> Result<Items<Tile>, AllocError>
     ensures { IfOk result (λ tiles. tiles ≡ said_tiles blocks.now root.now) }
 {
     let mut tiles = Items::new(alloc);

@@ -4,7 +4,7 @@ ghost use Rattle.elem_attrs.specs.Attributes.{attr_of};
 ghost use Rattle.arch_build.specs.Said.{inside, within, said_site, said_sub_tile, said_tile};
 
 use crate::part::{copied, count_in};
-use crate::places::Places;
+use crate::places::NamePlaces;
 use crate::port::ports_in;
 use arch_types::Tile;
 use elem_attrs::{has_tag, value_or_empty};
@@ -15,11 +15,12 @@ use std::alloc::{AllocError, Global};
 /// Adds the tiles in an element that is a list of them.
 pub(crate) fn push_tiles(
     alloc: Global,
-    blocks: &Places<'_>,
+    blocks: &NamePlaces<'_>,
     tiles: &mut Items<Tile>,
     list: &Elem,
 ) -> Result<(), AllocError>
-    ensures { OnOk result (tiles.new ≡ tiles.old ++ within (codes "tiles") (said_tile blocks.now) list.now) }
+    ensures { OnOk result (tiles.new ≡ tiles.old ++ within (codes "tiles") (said_tile blocks.now)
+        list.now) }
 {
     if has_tag(list, b"tiles") {
         for elem in list.kids.as_slice() {
@@ -31,7 +32,7 @@ pub(crate) fn push_tiles(
 
 fn push_tile(
     alloc: Global,
-    blocks: &Places<'_>,
+    blocks: &NamePlaces<'_>,
     tiles: &mut Items<Tile>,
     elem: &Elem,
 ) -> Result<(), AllocError>
@@ -48,12 +49,13 @@ fn push_tile(
 /// Adds the tile by its `sub_tile`, where the element is one.
 fn push_sub_tile(
     alloc: Global,
-    blocks: &Places<'_>,
+    blocks: &NamePlaces<'_>,
     tiles: &mut Items<Tile>,
     tile: &Elem,
     elem: &Elem,
 ) -> Result<(), AllocError>
-    ensures { OnOk result (tiles.new ≡ tiles.old ++ said_sub_tile blocks.now (attr_of tile.now (codes "name")) elem.now) }
+    ensures { OnOk result (tiles.new ≡ tiles.old ++ said_sub_tile blocks.now
+        (attr_of tile.now (codes "name")) elem.now) }
 {
     if has_tag(elem, b"sub_tile") {
         let is = Tile {
@@ -68,8 +70,9 @@ fn push_sub_tile(
     Ok(())
 }
 
-fn sites_in(alloc: Global, blocks: &Places<'_>, owner: &Elem) -> Result<Items<u32>, AllocError>
-    ensures { IfOk result (λ sites. sites ≡ flat_map (within (codes "equivalent_sites") (said_site blocks.now)) (inside owner.now)) }
+fn sites_in(alloc: Global, blocks: &NamePlaces<'_>, owner: &Elem) -> Result<Items<u32>, AllocError>
+    ensures { IfOk result (λ sites. sites ≡ flat_map
+        (within (codes "equivalent_sites") (said_site blocks.now)) (inside owner.now)) }
 {
     let mut sites = Items::new(alloc);
     for elem in owner.kids.as_slice() {
@@ -78,8 +81,13 @@ fn sites_in(alloc: Global, blocks: &Places<'_>, owner: &Elem) -> Result<Items<u3
     Ok(sites)
 }
 
-fn push_sites(blocks: &Places<'_>, sites: &mut Items<u32>, elem: &Elem) -> Result<(), AllocError>
-    ensures { OnOk result (sites.new ≡ sites.old ++ within (codes "equivalent_sites") (said_site blocks.now) elem.now) }
+fn push_sites(
+    blocks: &NamePlaces<'_>,
+    sites: &mut Items<u32>,
+    elem: &Elem,
+) -> Result<(), AllocError>
+    ensures { OnOk result (sites.new ≡ sites.old ++ within (codes "equivalent_sites")
+        (said_site blocks.now) elem.now) }
 {
     if has_tag(elem, b"equivalent_sites") {
         for site in elem.kids.as_slice() {
@@ -90,7 +98,7 @@ fn push_sites(blocks: &Places<'_>, sites: &mut Items<u32>, elem: &Elem) -> Resul
 }
 
 /// Adds a site by the number of its block type.
-fn push_site(blocks: &Places<'_>, sites: &mut Items<u32>, elem: &Elem) -> Result<(), AllocError>
+fn push_site(blocks: &NamePlaces<'_>, sites: &mut Items<u32>, elem: &Elem) -> Result<(), AllocError>
     ensures { OnOk result (sites.new ≡ sites.old ++ said_site blocks.now elem.now) }
 {
     if has_tag(elem, b"site") {

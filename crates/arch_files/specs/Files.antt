@@ -57,23 +57,23 @@ IsRefused bytes (UnknownModel name) = BreaksLink bytes (link.UnknownModel name)
 IsRefused bytes OutOfMemory = Unit {0}
 
 -- the error of the whole way for an error of one of its parts
-abbrev pub elem_told : ElemError → ArchError
-elem_told elem.NotUtf8 = NotUtf8
-elem_told elem.Deep = Deep
-elem_told (elem.Broken place) = Broken place
-elem_told elem.OutOfMemory = OutOfMemory
+abbrev pub error_of_elem : ElemError → ArchError
+error_of_elem elem.NotUtf8 = NotUtf8
+error_of_elem elem.Deep = Deep
+error_of_elem (elem.Broken place) = Broken place
+error_of_elem elem.OutOfMemory = OutOfMemory
 
-abbrev pub rule_told : RuleError → ArchError
-rule_told (rule.UnknownElement name place) = UnknownElement name place
-rule_told (rule.MissingAttr name place) = MissingAttr name place
-rule_told (rule.BadNumber place) = BadNumber place
-rule_told (rule.SameName name place) = SameName name place
-rule_told (rule.Unsupported what place) = Unsupported what place
-rule_told (rule.Limit which place) = Limit which place
-rule_told rule.OutOfMemory = OutOfMemory
+abbrev pub error_of_rule : RuleError → ArchError
+error_of_rule (rule.UnknownElement name place) = UnknownElement name place
+error_of_rule (rule.MissingAttr name place) = MissingAttr name place
+error_of_rule (rule.BadNumber place) = BadNumber place
+error_of_rule (rule.SameName name place) = SameName name place
+error_of_rule (rule.Unsupported what place) = Unsupported what place
+error_of_rule (rule.Limit which place) = Limit which place
+error_of_rule rule.OutOfMemory = OutOfMemory
 
-abbrev pub link_told : LinkError → ArchError
-link_told (link.SitePorts tile site) = SitePorts tile site
-link_told (link.NoSuchBlock name) = NoSuchBlock name
-link_told (link.UnknownModel name) = UnknownModel name
-link_told link.OutOfMemory = OutOfMemory
+abbrev pub error_of_link : LinkError → ArchError
+error_of_link (link.SitePorts tile site) = SitePorts tile site
+error_of_link (link.NoSuchBlock name) = NoSuchBlock name
+error_of_link (link.UnknownModel name) = UnknownModel name
+error_of_link link.OutOfMemory = OutOfMemory

@@ -1,5 +1,5 @@
 ghost use Rattle.std.specs.Prelude.{◌≡◌};
-ghost use Rattle.arch_files.specs.Files.{elem_told, rule_told, link_told};
+ghost use Rattle.arch_files.specs.Files.{error_of_elem, error_of_rule, error_of_link};
 ghost use Rattle.arch_files.specs.declared.error.ArchError.TheVariants.{OutOfMemory};
 
 use arch_links::LinkError;
@@ -66,7 +66,7 @@ impl From<AllocError> for ArchError {
 }
 
 impl From<ElemError> for ArchError {
-    ghost from_gives = { λ e told. told ≡ elem_told e };
+    ghost from_gives = { λ e told. told ≡ error_of_elem e };
 
     fn from(e: ElemError) -> ArchError {
         match e {
@@ -79,7 +79,7 @@ impl From<ElemError> for ArchError {
 }
 
 impl From<RuleError> for ArchError {
-    ghost from_gives = { λ e told. told ≡ rule_told e };
+    ghost from_gives = { λ e told. told ≡ error_of_rule e };
 
     fn from(e: RuleError) -> ArchError {
         match e {
@@ -95,7 +95,7 @@ impl From<RuleError> for ArchError {
 }
 
 impl From<LinkError> for ArchError {
-    ghost from_gives = { λ e told. told ≡ link_told e };
+    ghost from_gives = { λ e told. told ≡ error_of_link e };
 
     fn from(e: LinkError) -> ArchError {
         match e {

@@ -6,8 +6,6 @@ mod error;
 mod laws;
 mod read;
 mod telling;
-#[cfg(test)]
-mod tests;
 
 pub use error::ArchError;
 pub use laws::laws_of_files;

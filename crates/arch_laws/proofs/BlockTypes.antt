@@ -12,7 +12,7 @@ use Rattle.elem_attrs.specs.Attributes.{has_tag, attr_of}
 use Rattle.arch_build.specs.Said.{within, count_in, said_block, said_blocks, said_model, said_models, said_port_name}
 use Rattle.arch_types.specs.Models.{model_names}
 use Rattle.arch_build.proofs.Rows.{block_is}
-use Rattle.arch_links.specs.Links.{IsLost, models_at, block_models, models_used}
+use Rattle.arch_links.specs.Links.{IsUnknown, models_at, block_models, models_used}
 use Rattle.arch_rules.specs.declared.role.Role.TheVariants as role
 use Rattle.arch_rules.specs.declared.role.Sort.TheVariants as sort
 use Rattle.arch_rules.specs.Elements.{name_of, kids_of}
@@ -74,7 +74,7 @@ module _ (models : List (List ℕ)) where
   in_one before e tag ready deep =
       let known : AreKnown models (flat_map block_models (kids_of e)) =
       subst (λ l. AreKnown models l) (ap (λ t. if t then flat_map block_models (kids_of e) else []) tag) ready.known in
-      let each : All (λ kid. AreKnown models (block_models kid)) (kids_of e) = none_each (IsLost models) block_models (kids_of e) known in
+      let each : All (λ kid. AreKnown models (block_models kid)) (kids_of e) = none_each (IsUnknown models) block_models (kids_of e) known in
       let held : All IsHeld (kids_of e) = held_each (kids_of e) (held_kids e ready.held) in
       each_with (IsBlockType (length models)) IsReady (said_block models) (in_list role.Blocks) before (kids_of e) deep
       (λ k d within. record { held = held k d within; known = each k d within }) one_block
@@ -90,7 +90,7 @@ module _ (models : List (List ℕ)) where
   }
     where
       each : All (λ e. AreKnown models (within (codes "complexblocklist") block_models e)) (kids_of root)
-      each = none_each (IsLost models) (within (codes "complexblocklist") block_models) (kids_of root) known
+      each = none_each (IsUnknown models) (within (codes "complexblocklist") block_models) (kids_of root) known
 
       all_held : All IsHeld (kids_of root)
       all_held = held_each (kids_of root) (held_kids root held)

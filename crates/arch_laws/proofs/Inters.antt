@@ -9,7 +9,7 @@ use Rattle.elem_text.specs.Held.{elements}
 use Rattle.elem_attrs.specs.Attributes.{has_tag, attr_of}
 use Rattle.arch_build.specs.Said.{within, inter_kind, inter_of, said_inter, said_inters, said_pattern, said_metas}
 use Rattle.arch_rules.specs.declared.role.Role.TheVariants as role
-use Rattle.arch_types.specs.Names.{IsDarkName}
+use Rattle.arch_types.specs.Names.{IsUnbrokenName}
 use Rattle.arch_rules.specs.Elements.{name_of, kids_of}
 use Rattle.arch_rules.specs.Roles.{role_in}
 use Rattle.arch_rules.specs.Rules.{Inside, role_at}
@@ -56,7 +56,7 @@ one_inter at parent before e own held = go (inter_kind e) refl
           patterns = flat_map said_pattern (kids_of e);
           metas = said_metas (kids_of e);
         }) [] (record {
-          name = named_by IsDarkName dark_decided role.Inter _ e (codes "input" ∷ codes "output" ∷ []) refl (λ un. un) (λ text may. may)
+          name = named_by IsUnbrokenName dark_decided role.Inter _ e (codes "input" ∷ codes "output" ∷ []) refl (λ un. un) (λ text may. may)
               (fine_as (role_at at e) role.Inter _ e role_is own);
           utf8 = attr_utf8 e (codes "name") held.utf8;
           input = attr_utf8 e (codes "input") held.utf8;

@@ -6,7 +6,7 @@ use Rattle.std.specs.Option.{option_and_then}
 use Rattle.elem_text.specs.declared.elem.Elem.{Elem, out-Elem}
 use Rattle.elem_attrs.specs.Attributes.{value_of, has_tag}
 use Rattle.arch_links.specs.First.{IsOfNone}
-use Rattle.arch_links.specs.Links.{IsLost, model_in, listed, own_model, holds_blocks, models_at}
+use Rattle.arch_links.specs.Links.{IsUnknown, model_in, listed, own_model, holds_blocks, models_at}
 use Rattle.arch_links.proofs.Rows.{models_is}
 use Rattle.arch_rules.specs.Elements.{kids_of}
 use Rattle.arch_laws.proofs.Leaves.{KnowsModel}
@@ -21,7 +21,7 @@ none_right P (x ∷ xs) ys none = none_right P xs ys none.1
 
 -- each of these names stands in the list
 abbrev pub AreKnown : List (List ℕ) → List (List ℕ) → Type 0
-AreKnown models names = IsOfNone (IsLost models) names
+AreKnown models names = IsOfNone (IsUnknown models) names
 
 abbrev pub models_in : List Elem → List (List ℕ)
 models_in elems = flat_map models_at elems
@@ -42,17 +42,17 @@ below_is e below (inr tag) = go (has_tag e (codes "pb_type")) (has_tag e (codes 
 pub known_kids : (models : List (List ℕ)) (e : Elem) → HoldsBlocks e → AreKnown models (models_at e) → AreKnown models (models_in (kids_of e))
 known_kids models e holds known =
     subst (λ l. AreKnown models l) (below_is e (models_in (kids_of e)) holds)
-    (none_right (IsLost models) (own_model e) (holds_blocks e (models_in (kids_of e))) (subst (λ l. AreKnown models l) (models_is e) known))
+    (none_right (IsUnknown models) (own_model e) (holds_blocks e (models_in (kids_of e))) (subst (λ l. AreKnown models l) (models_is e) known))
 
-listed_known : (models : List (List ℕ)) (o : Option (List ℕ)) (model : List ℕ) → AreKnown models (listed o) → o ≡ Some model → IsLost models model → ⊥
+listed_known : (models : List (List ℕ)) (o : Option (List ℕ)) (model : List ℕ) → AreKnown models (listed o) → o ≡ Some model → IsUnknown models model → ⊥
 listed_known models None model known is = absurd (cc)
-listed_known models (Some name) model known is = let same : name ≡ model = cc in subst (λ n. IsLost models n → ⊥) same known.0
+listed_known models (Some name) model known is = let same : name ≡ model = cc in subst (λ n. IsUnknown models n → ⊥) same known.0
 
 pub known_own : (models : List (List ℕ)) (e : Elem) (text : List ℕ) → has_tag e (codes "pb_type") ≡ true →
     value_of (out-Elem e).attrs (codes "blif_model") ≡ Some text → AreKnown models (models_at e) → KnowsModel models text
 known_own models e text tag is known model named =
     let own : AreKnown models (own_model e) =
-    none_left (IsLost models) (own_model e) (holds_blocks e (models_in (kids_of e))) (subst (λ l. AreKnown models l) (models_is e) known) in
+    none_left (IsUnknown models) (own_model e) (holds_blocks e (models_in (kids_of e))) (subst (λ l. AreKnown models l) (models_is e) known) in
     let is_listed : own_model e ≡ listed (model_in text) =
     ap (λ b. if b then listed (option_and_then model_in (value_of (out-Elem e).attrs (codes "blif_model"))) else []) tag
     ∙ ap (λ o. listed (option_and_then model_in o)) is in

@@ -13,9 +13,9 @@ use Rattle.arch_types.specs.declared.block.Side.{Side}
 use Rattle.arch_types.specs.declared.block.Side.TheVariants.{Input, Output, Clock}
 use Rattle.arch_types.specs.Preorder.{inside}
 use Rattle.elem_text.specs.declared.elem.Elem.{Elem, out-Elem}
-use Rattle.arch_build.specs.Places.{found_place, place_of}
+use Rattle.arch_build.specs.NamePlaces.{found_place, place_of}
 use Rattle.arch_build.specs.Said.{said_port, count_in, leaf_kind}
-use Rattle.arch_links.specs.Links.{IsLost, model_in}
+use Rattle.arch_links.specs.Links.{IsUnknown, model_in}
 use Rattle.arch_rules.specs.declared.error.LimitKind.TheVariants.{Inputs, NumPb}
 use Rattle.arch_rules.specs.declared.role.Role.{Role}
 use Rattle.arch_rules.specs.declared.role.Role.TheVariants as role
@@ -202,7 +202,7 @@ found_inside (n ∷ names) name place found = go (bytes_eq n name) (found_place 
     go false (Some k) same later = let next : suc k ≡ place = cc in let fits = later k refl in omega (arith, next, fits)
 
 -- the place of a name that stands in the list
-pub place_inside : (names : List (List ℕ)) (name : List ℕ) → (IsLost names name → ⊥) → place_of names name < length names
+pub place_inside : (names : List (List ℕ)) (name : List ℕ) → (IsUnknown names name → ⊥) → place_of names name < length names
 place_inside names name known = go (found_place names name) refl
   where
     go : (o : Option ℕ) → found_place names name ≡ o → option_map_or (λ (place : ℕ). place) o (length names) < length names
@@ -211,7 +211,7 @@ place_inside names name known = go (found_place names name) refl
 
 -- the model of a box is known
 abbrev pub KnowsModel : List (List ℕ) → List ℕ → Type 0
-KnowsModel models text = (model : List ℕ) → model_in text ≡ Some model → IsLost models model → ⊥
+KnowsModel models text = (model : List ℕ) → model_in text ≡ Some model → IsUnknown models model → ⊥
 
 named_model : (text : List ℕ) → bytes_eq (take 8 text) (codes ".subckt ") ≡ true → model_in text ≡ Some (drop 8 text)
 named_model text is = ap (λ b. if b then Some (drop 8 text) else None) is

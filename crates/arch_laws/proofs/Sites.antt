@@ -14,11 +14,11 @@ use Rattle.arch_types.specs.declared.block.Side.{Side}
 use Rattle.arch_types.specs.declared.block.Side.TheVariants.{Input, Output, Clock}
 use Rattle.elem_text.specs.declared.elem.Elem.{Elem, out-Elem}
 use Rattle.elem_attrs.specs.Attributes.{has_tag, attr_of}
-use Rattle.arch_build.specs.Places.{place_of}
+use Rattle.arch_build.specs.NamePlaces.{place_of}
 use Rattle.arch_build.specs.Said.{within, count_in, said_port, said_site, said_sub_tile, said_tile, said_tiles}
 use Rattle.arch_types.specs.Tree.{block_names}
 use Rattle.arch_links.specs.First.{IsOfNone}
-use Rattle.arch_links.specs.Links.{IsLost, SiteOf, HasOtherPorts, sites_in, sites_of, site_name, sub_tile_sites, site_names}
+use Rattle.arch_links.specs.Links.{IsUnknown, SiteOf, HasOtherPorts, sites_in, sites_of, site_name, sub_tile_sites, site_names}
 use Rattle.arch_rules.specs.Elements.{kids_of}
 use Rattle.arch_types.specs.Tiles.{IsSite}
 use Rattle.arch_laws.proofs.Lists.{flat_with, IsAt, at_inside}
@@ -128,7 +128,7 @@ module _ (names : List (List ℕ)) where
     where
       go : (t : Bool) → AreKnown names (if t then flat_map g (kids_of e) else []) → All P (if t then flat_map f (kids_of e) else [])
       go false known = All-nil P
-      go true known = flat_with P (λ x. AreKnown names (g x)) f gives (kids_of e) (none_each (IsLost names) g (kids_of e) known)
+      go true known = flat_with P (λ x. AreKnown names (g x)) f gives (kids_of e) (none_each (IsUnknown names) g (kids_of e) known)
 
   abbrev IsInside : ℕ → Type 0
   IsInside n = n < length names
@@ -161,7 +161,7 @@ module _ (names : List (List ℕ)) where
           All-cons (AreInside (length names)) one []
           (flat_with IsInside (λ x. AreKnown names (within (codes "equivalent_sites") site_name x)) (within (codes "equivalent_sites") (said_site names))
           (in_within IsInside (codes "equivalent_sites") (said_site names) site_name in_site) (kids_of e)
-          (none_each (IsLost names) (within (codes "equivalent_sites") site_name) (kids_of e) known)) (All-nil (AreInside (length names)))
+          (none_each (IsUnknown names) (within (codes "equivalent_sites") site_name) (kids_of e) known)) (All-nil (AreInside (length names)))
 
   in_tile : (e : Elem) → AreKnown names (within (codes "tile") sub_tile_sites e) → All (AreInside (length names)) (said_tile names e)
   in_tile e = in_within (AreInside (length names)) (codes "tile") (said_sub_tile names (attr_of e (codes "name"))) sub_tile_sites (in_sub_tile (attr_of e (codes "name"))) e
@@ -170,7 +170,7 @@ module _ (names : List (List ℕ)) where
   sites_inside root known =
       flat_with (AreInside (length names)) (λ x. AreKnown names (within (codes "tiles") (within (codes "tile") sub_tile_sites) x)) (within (codes "tiles") (said_tile names))
       (in_within (AreInside (length names)) (codes "tiles") (said_tile names) (within (codes "tile") sub_tile_sites) in_tile) (kids_of root)
-      (none_each (IsLost names) (within (codes "tiles") (within (codes "tile") sub_tile_sites)) (kids_of root) known)
+      (none_each (IsUnknown names) (within (codes "tiles") (within (codes "tile") sub_tile_sites)) (kids_of root) known)
 
 -- the sites of each tile
 pub sites_are : (blocks : List PbType) (root : Elem) → AreKnown (block_names blocks) (site_names root) →

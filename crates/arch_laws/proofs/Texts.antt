@@ -9,14 +9,14 @@ use Rattle.std.proofs.lemmas.Bool.{false≢true, leb-true, ltb-true}
 use Rattle.std.specs.Char.{is_digit, digit_value}
 use Rattle.std.specs.Str.{bytes_eq}
 use Rattle.std.specs.Str.Parse.{IsNumeral, AllDigits, digits_value}
-use Rattle.vtr_base.specs.Spans.{is_dark}
+use Rattle.vtr_base.specs.Spans.{is_word_byte}
 use Rattle.elem_text.specs.declared.elem.Attr.{Attr}
 use Rattle.elem_text.specs.declared.elem.Elem.{Elem, out-Elem}
 use Rattle.elem_attrs.specs.Attributes as said
 use Rattle.elem_attrs.specs.Numbers.{number_up_to, signed_number, is_decimal, all_digits}
 use Rattle.arch_build.specs.Said.{count_of, count_in, small_in, zero_or}
 use Rattle.arch_rules.specs.declared.role.Role.{Role}
-use Rattle.arch_types.specs.Names.{IsPlainName, IsDarkName, is_plain}
+use Rattle.arch_types.specs.Names.{IsPlainName, IsUnbrokenName, is_plain}
 use Rattle.arch_rules.specs.Numbers.{SpellsNumber}
 use Rattle.arch_rules.specs.Elements.{value_of, attribute, text_or_none, text_at}
 use Rattle.arch_rules.specs.Roles.{required}
@@ -55,9 +55,9 @@ plain_decided (b ∷ bs) = elim (passes is_plain (b ∷ bs)) [
   | inr other ↦ inr (λ is. other is.plain)
 ]
 
-pub dark_decided : IsDecided IsDarkName
+pub dark_decided : IsDecided IsUnbrokenName
 dark_decided [] = inr (λ is. is.some refl)
-dark_decided (b ∷ bs) = elim (passes is_dark (b ∷ bs)) [
+dark_decided (b ∷ bs) = elim (passes is_word_byte (b ∷ bs)) [
   | inl all ↦ inl (record { some = λ none. absurd (cc); dark = all })
   | inr other ↦ inr (λ is. other is.dark)
 ]

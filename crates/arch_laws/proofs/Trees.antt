@@ -19,7 +19,7 @@ use Rattle.elem_attrs.specs.Attributes.{has_tag, attr_of, value_of}
 use Rattle.arch_build.specs.Said.{said_block, said_mode, said_port, said_inters, said_metas, count_in, kind_or_modes, modes_or_default}
 use Rattle.arch_types.specs.Tree.{block_names}
 use Rattle.arch_build.proofs.Rows.{block_is, mode_is}
-use Rattle.arch_links.specs.Links.{IsLost, models_at}
+use Rattle.arch_links.specs.Links.{IsUnknown, models_at}
 use Rattle.arch_rules.specs.declared.role.Role.{Role}
 use Rattle.arch_rules.specs.declared.role.Role.TheVariants as role
 use Rattle.arch_rules.specs.declared.role.Sort.TheVariants as sort
@@ -293,9 +293,9 @@ module _ (models : List (List ℕ)) where
   good at before (e ∷ rest) (more _ _ _ _ own deep tail) held known =
       let held_e : IsHeld e = held_first e rest held in
       let first : IsGoodAt at e =
-      one_good at before e (own, deep) held_e (none_left (IsLost models) (models_at e) (models_in rest) known)
+      one_good at before e (own, deep) held_e (none_left (IsUnknown models) (models_at e) (models_in rest) known)
       (λ below. good (inside at e) (cousins (role_at at e) before) (kids_of e) deep (held_kids e held_e) below) in
-      let later : AreGood at rest = good at (before ++ e ∷ []) rest tail (held_rest e rest held) (none_right (IsLost models) (models_at e) (models_in rest) known) in
+      let later : AreGood at rest = good at (before ++ e ∷ []) rest tail (held_rest e rest held) (none_right (IsUnknown models) (models_at e) (models_in rest) known) in
       record {
         blocks = λ holds. All-append (IsTree (length models)) (said_block models e) (blocks_in rest) (first.blocks holds) (later.blocks holds);
         modes = λ holds. All-append (IsModeTree at.owner) (said_mode models e) (modes_in rest) (first.modes holds) (later.modes holds);

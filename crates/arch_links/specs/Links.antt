@@ -10,7 +10,7 @@ use Rattle.arch_types.specs.declared.arch.Tile.{Tile}
 use Rattle.arch_types.specs.declared.block.PbType.{PbType}
 use Rattle.elem_text.specs.declared.elem.Elem.{Elem, Elem', Row_of-Elem, end_of-Elem, more_of-Elem, out-Elem}
 use Rattle.elem_attrs.specs.Attributes.{value_of, attr_of, has_tag}
-use Rattle.arch_build.specs.Places.{found_place}
+use Rattle.arch_build.specs.NamePlaces.{found_place}
 use Rattle.arch_build.specs.Said.{inside, within}
 use Rattle.arch_types.specs.Models.{model_names}
 use Rattle.arch_types.specs.Tree.{block_names}
@@ -54,8 +54,8 @@ abbrev pub nows : List (Bor (List ℕ)) → List (List ℕ)
 nows names = map (λ n. n.now) names
 
 -- the name stands nowhere in the list
-abbrev pub IsLost : List (List ℕ) → List ℕ → Type 0
-IsLost known name = found_place known name ≡ None
+abbrev pub IsUnknown : List (List ℕ) → List ℕ → Type 0
+IsUnknown known name = found_place known name ≡ None
 
 abbrev pub site_name : Elem → List (List ℕ)
 site_name e = if has_tag e (codes "site") then attr_of e (codes "pb_type") ∷ [] else []
@@ -105,14 +105,14 @@ models_used root = flat_map (within (codes "complexblocklist") block_models) (in
 -- each site has its tile's ports, each site names a block type, and each box a model
 pub record AreLinked (root : Elem) (a : ArchParts) : Type 0 where
   pub ports : IsOfNone (HasOtherPorts a.blocks) (sites_of a.tiles)
-  pub blocks : IsOfNone (IsLost (block_names a.blocks)) (site_names root)
-  pub models : IsOfNone (IsLost (model_names a.models)) (models_used root)
+  pub blocks : IsOfNone (IsUnknown (block_names a.blocks)) (site_names root)
+  pub models : IsOfNone (IsUnknown (model_names a.models)) (models_used root)
 
 -- the error tells the first of these rules that doesn't hold, with the first place at which it doesn't
 abbrev pub IsUnlinked : Elem → ArchParts → LinkError → Type 0
 IsUnlinked root a (SitePorts tile site) = IsFirstMisfit a tile site
-IsUnlinked root a (NoSuchBlock name) = IsOfNone (HasOtherPorts a.blocks) (sites_of a.tiles) × IsFirst (IsLost (block_names a.blocks)) (site_names root) name
+IsUnlinked root a (NoSuchBlock name) = IsOfNone (HasOtherPorts a.blocks) (sites_of a.tiles) × IsFirst (IsUnknown (block_names a.blocks)) (site_names root) name
 IsUnlinked root a (UnknownModel name) =
-    IsOfNone (HasOtherPorts a.blocks) (sites_of a.tiles) × IsOfNone (IsLost (block_names a.blocks)) (site_names root)
-    × IsFirst (IsLost (model_names a.models)) (models_used root) name
+    IsOfNone (HasOtherPorts a.blocks) (sites_of a.tiles) × IsOfNone (IsUnknown (block_names a.blocks)) (site_names root)
+    × IsFirst (IsUnknown (model_names a.models)) (models_used root) name
 IsUnlinked root a OutOfMemory = Unit {0}

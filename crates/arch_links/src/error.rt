@@ -8,8 +8,8 @@ use vtr_base::Text;
 /// What one part of an architecture file names that isn't there, or isn't like it.
 #[derive(Debug, Drop, Error)]
 pub enum LinkError {
-    /// The ports of a tile's site, one by one in file order, differ from the tile's in number, name,
-    /// side or width. `site` is the name of its block type.
+    /// The ports of a tile's site, one by one in file order, differ from the tile's in number,
+    /// name, side or width. `site` is the name of its block type.
     #[error("the ports of a site are not those of its tile")]
     SitePorts { tile: Text, site: Text },
     /// A site of a tile names no block type.

@@ -7,8 +7,6 @@ mod error;
 mod laws;
 mod named;
 mod site;
-#[cfg(test)]
-mod tests;
 
 pub use check::check_links;
 pub use error::LinkError;

@@ -3,21 +3,22 @@ ghost use Rattle.std.specs.List.{flat_map};
 ghost use Rattle.std.specs.Option.{option_map};
 ghost use Rattle.arch_build.specs.Said.{inside, within};
 ghost use Rattle.arch_links.specs.First.{IsFirst, IsOfNone};
-ghost use Rattle.arch_links.specs.Links.{IsLost, site_name, sub_tile_sites, site_names, model_in, own_model, models_at, block_models, models_used, nows};
+ghost use Rattle.arch_links.specs.Links.{IsUnknown, site_name, sub_tile_sites, site_names, model_in, own_model, models_at, block_models, models_used, nows};
 
-use arch_build::Places;
+use arch_build::NamePlaces;
 use elem_attrs::{attribute, has_tag};
 use elem_text::Elem;
 use std::alloc::{AllocError, Global};
 use vtr_base::Text;
 
 /// The first of the names that isn't known.
-pub(crate) fn first_lost(
+pub(crate) fn first_unknown(
     alloc: Global,
-    known: &Places<'_>,
+    known: &NamePlaces<'_>,
     names: &[&str],
 ) -> Result<Option<Text>, AllocError>
-    ensures { IfOk result (λ r. MatchOption r (IsOfNone (IsLost known.now) (nows names.now)) (IsFirst (IsLost known.now) (nows names.now))) }
+    ensures { IfOk result (λ r. MatchOption r (IsOfNone (IsUnknown known.now) (nows names.now))
+        (IsFirst (IsUnknown known.now) (nows names.now))) }
 {
     for name in names {
         if !known.has(name.as_bytes()) {
@@ -39,7 +40,8 @@ pub(crate) fn site_names<'a>(alloc: Global, root: &'a Elem) -> Result<Vec<&'a st
 }
 
 fn push_tiles<'a>(names: &mut Vec<&'a str>, list: &'a Elem) -> Result<(), AllocError>
-    ensures { OnOk result (nows names.new.items ≡ nows names.old.items ++ within (codes "tiles") (within (codes "tile") sub_tile_sites) list.now) }
+    ensures { OnOk result (nows names.new.items ≡ nows names.old.items ++ within (codes "tiles")
+        (within (codes "tile") sub_tile_sites) list.now) }
 {
     if has_tag(list, b"tiles") {
         for tile in list.kids.as_slice() {
@@ -50,7 +52,8 @@ fn push_tiles<'a>(names: &mut Vec<&'a str>, list: &'a Elem) -> Result<(), AllocE
 }
 
 fn push_tile<'a>(names: &mut Vec<&'a str>, tile: &'a Elem) -> Result<(), AllocError>
-    ensures { OnOk result (nows names.new.items ≡ nows names.old.items ++ within (codes "tile") sub_tile_sites tile.now) }
+    ensures { OnOk result (nows names.new.items ≡ nows names.old.items ++ within (codes "tile")
+        sub_tile_sites tile.now) }
 {
     if has_tag(tile, b"tile") {
         for sub_tile in tile.kids.as_slice() {
@@ -72,7 +75,8 @@ fn push_sub_tile<'a>(names: &mut Vec<&'a str>, elem: &'a Elem) -> Result<(), All
 }
 
 fn push_sites<'a>(names: &mut Vec<&'a str>, elem: &'a Elem) -> Result<(), AllocError>
-    ensures { OnOk result (nows names.new.items ≡ nows names.old.items ++ within (codes "equivalent_sites") site_name elem.now) }
+    ensures { OnOk result (nows names.new.items ≡ nows names.old.items ++ within
+        (codes "equivalent_sites") site_name elem.now) }
 {
     if has_tag(elem, b"equivalent_sites") {
         for site in elem.kids.as_slice() {
@@ -106,7 +110,8 @@ pub(crate) fn models_used<'a>(alloc: Global, root: &'a Elem) -> Result<Vec<&'a s
 }
 
 fn push_list<'a>(names: &mut Vec<&'a str>, list: &'a Elem) -> Result<(), AllocError>
-    ensures { OnOk result (nows names.new.items ≡ nows names.old.items ++ within (codes "complexblocklist") block_models list.now) }
+    ensures { OnOk result (nows names.new.items ≡ nows names.old.items ++ within
+        (codes "complexblocklist") block_models list.now) }
 {
     if has_tag(list, b"complexblocklist") {
         for block in list.kids.as_slice() {

@@ -58,7 +58,8 @@ fn check_site(
 
 /// The block type of a site, where it has other ports than the tile.
 fn misfit<'a>(blocks: &'a [PbType], tile: &Tile, site: u32) -> Option<&'a PbType>
-    ensures { MatchOption result (HasOtherPorts blocks.now (site_at tile.now site) → ⊥) (λ b. (slice_get blocks.now site ≡ Some b.now) × (b.now.ports ≡ tile.now.ports → ⊥)) }
+    ensures { MatchOption result (HasOtherPorts blocks.now (site_at tile.now site) → ⊥)
+        (λ b. (slice_get blocks.now site ≡ Some b.now) × (b.now.ports ≡ tile.now.ports → ⊥)) }
 {
     let block = blocks.get(site as usize)?;
     if are_alike(block.ports.as_slice(), tile.ports.as_slice()) {

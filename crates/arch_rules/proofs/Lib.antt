@@ -1,7 +1,7 @@
 pub mod Found
 pub mod Digits
 pub mod Loops
-pub mod Told
+pub mod UnlessMemory
 pub mod Sets
 pub mod Siblings
 pub mod Below

@@ -9,7 +9,7 @@ use Rattle.arch_rules.specs.declared.taken.Taken.{Taken}
 use Rattle.arch_rules.specs.Elements.{kids_of}
 use Rattle.arch_rules.specs.Rules.{Inside, role_at}
 use Rattle.arch_rules.specs.Taken.{Knows}
-use Rattle.arch_rules.specs.Walks.{inside, cousins, AreFine, none, more, FirstBreaks, here, deeper, later, Told, IsFineAt, RefusesAt, Judges}
+use Rattle.arch_rules.specs.Walks.{inside, cousins, AreFine, none, more, FirstBreaks, here, deeper, later, UnlessMemory, IsFineAt, RefusesAt, Judges}
 
 pub fine_append : (at : Inside) (before xs ys : List Elem) → AreFine at before xs → AreFine at (before ++ xs) ys → AreFine at before (xs ++ ys)
 fine_append at before [] ys fine fine' = subst (λ b. AreFine at b ys) (append-nil before) fine'
@@ -23,7 +23,7 @@ breaks_append error at before (x ∷ xs) ys (more _ _ _ _ own deep rest) breaks 
     later at before x (xs ++ ys) own deep
     (breaks_append error at (before ++ x ∷ []) xs ys rest (subst (λ b. FirstBreaks error at b ys) (sym (append_assoc before (x ∷ []) xs)) breaks))
 
-pub told : (error : RuleError) (P : Type 0) → P → Told error P
+pub told : (error : RuleError) (P : Type 0) → P → UnlessMemory error P
 told (UnknownElement name place) P p = p
 told (MissingAttr name place) P p = p
 told (BadNumber place) P p = p
@@ -32,7 +32,7 @@ told (Unsupported what place) P p = p
 told (Limit which place) P p = p
 told OutOfMemory P p = tt
 
-pub told_on : (error : RuleError) (P Q : Type 0) → (P → Q) → Told error P → Told error Q
+pub told_on : (error : RuleError) (P Q : Type 0) → (P → Q) → UnlessMemory error P → UnlessMemory error Q
 told_on (UnknownElement name place) P Q on p = on p
 told_on (MissingAttr name place) P Q on p = on p
 told_on (BadNumber place) P Q on p = on p
@@ -42,9 +42,9 @@ told_on (Limit which place) P Q on p = on p
 told_on OutOfMemory P Q on p = tt
 
 pub handed_on : (X : Type 0) (r : Result X RuleError) (error : RuleError) (at : Inside) (before kids : List Elem) → IsErrAnd r (λ x. x ≡ error) →
-    Told error (FirstBreaks error at before kids) → Judges r at before kids
+    UnlessMemory error (FirstBreaks error at before kids) → Judges r at before kids
 handed_on X (Ok x) error at before kids is wrong = absurd is
-handed_on X (Err x) error at before kids is wrong = subst (λ e. Told e (FirstBreaks e at before kids)) (sym is) wrong
+handed_on X (Err x) error at before kids is wrong = subst (λ e. UnlessMemory e (FirstBreaks e at before kids)) (sym is) wrong
 
 -- the first i of the elements are fine, and their names are met
 abbrev pub Passed : Inside → Taken → Taken → List Elem → ℕ → Type 0
@@ -86,7 +86,7 @@ module _ (at : Inside) (before : List Elem) (now : Taken) (kids : List Elem) (i 
       subst (λ l. Knows at after (before ++ l)) (sym front) more_met
 
   -- the next element breaks a rule itself
-  pub one_here : (error : RuleError) → ((b : List Elem) → Knows at now b → RefusesAt at b kid error) → Told error (FirstBreaks error at before kids)
+  pub one_here : (error : RuleError) → ((b : List Elem) → Knows at now b → RefusesAt at b kid error) → UnlessMemory error (FirstBreaks error at before kids)
   one_here error refuses =
       let first : FirstBreaks error at (before ++ take i kids) (kid ∷ drop (suc i) kids) = here at (before ++ take i kids) kid (drop (suc i) kids) (refuses (before ++ take i kids) met) in
       told error (FirstBreaks error at before kids)
@@ -94,7 +94,7 @@ module _ (at : Inside) (before : List Elem) (now : Taken) (kids : List Elem) (i 
 
   -- or something in it does
   pub one_deeper : (error : RuleError) → ((b : List Elem) → Knows at now b → IsFineAt at b kid) →
-      Told error (FirstBreaks error (inside at kid) (cousins (role_at at kid) (before ++ take i kids)) (kids_of kid)) → Told error (FirstBreaks error at before kids)
+      UnlessMemory error (FirstBreaks error (inside at kid) (cousins (role_at at kid) (before ++ take i kids)) (kids_of kid)) → UnlessMemory error (FirstBreaks error at before kids)
   one_deeper error own deep =
       told_on error (FirstBreaks error (inside at kid) (cousins (role_at at kid) (before ++ take i kids)) (kids_of kid)) (FirstBreaks error at before kids)
       (λ breaks. subst (λ l. FirstBreaks error at before l) whole (breaks_append error at before (take i kids) (kid ∷ drop (suc i) kids) fine
@@ -110,13 +110,13 @@ module _ (at : Inside) (start now : Taken) (kids : List Elem) (i : ℕ) (kid : E
       (fine_more at before now kids i kid within is p.0 p.1 own (deep before knows), met_more at before now kids i kid within is p.0 p.1 after next)
 
   pub breaks_here : (error : RuleError) → ((before : List Elem) → Knows at now before → RefusesAt at before kid error) →
-      (before : List Elem) → Knows at start before → Told error (FirstBreaks error at before kids)
+      (before : List Elem) → Knows at start before → UnlessMemory error (FirstBreaks error at before kids)
   breaks_here error refuses before knows = let p = passed before knows in one_here at before now kids i kid within is p.0 p.1 error refuses
 
   pub breaks_deeper : (error : RuleError) → ((before : List Elem) → Knows at now before → IsFineAt at before kid) →
       ((before : List Elem) → Knows at start before →
-      Told error (FirstBreaks error (inside at kid) (cousins (role_at at kid) (before ++ take i kids)) (kids_of kid))) →
-      (before : List Elem) → Knows at start before → Told error (FirstBreaks error at before kids)
+      UnlessMemory error (FirstBreaks error (inside at kid) (cousins (role_at at kid) (before ++ take i kids)) (kids_of kid))) →
+      (before : List Elem) → Knows at start before → UnlessMemory error (FirstBreaks error at before kids)
   breaks_deeper error own deep before knows =
       let p = passed before knows in one_deeper at before now kids i kid within is p.0 p.1 error own (deep before knows)
 
@@ -133,15 +133,15 @@ alone at inner kid before same none_before fine =
     subst (λ b. AreFine (inside at kid) b (kids_of kid)) (sym none_before) (subst (λ w. AreFine w [] (kids_of kid)) same fine)
 
 pub breaks_alone : (error : RuleError) (at inner : Inside) (kid : Elem) (before : List Elem) → inner ≡ inside at kid → cousins (role_at at kid) before ≡ [] →
-    Told error (FirstBreaks error inner [] (kids_of kid)) → Told error (FirstBreaks error (inside at kid) (cousins (role_at at kid) before) (kids_of kid))
+    UnlessMemory error (FirstBreaks error inner [] (kids_of kid)) → UnlessMemory error (FirstBreaks error (inside at kid) (cousins (role_at at kid) before) (kids_of kid))
 breaks_alone error at inner kid before same none_before breaks =
-    subst (λ b. Told error (FirstBreaks error (inside at kid) b (kids_of kid))) (sym none_before)
-    (subst (λ w. Told error (FirstBreaks error w [] (kids_of kid))) same breaks)
+    subst (λ b. UnlessMemory error (FirstBreaks error (inside at kid) b (kids_of kid))) (sym none_before)
+    (subst (λ w. UnlessMemory error (FirstBreaks error w [] (kids_of kid))) same breaks)
 
 -- the same of the list that the loop went over
 pub breaks_of : (at : Inside) (kids elems : List Elem) → kids ≡ elems → (error : RuleError) (before : List Elem) →
-    Told error (FirstBreaks error at before kids) → Told error (FirstBreaks error at before elems)
-breaks_of at kids elems same error before breaks = subst (λ l. Told error (FirstBreaks error at before l)) same breaks
+    UnlessMemory error (FirstBreaks error at before kids) → UnlessMemory error (FirstBreaks error at before elems)
+breaks_of at kids elems same error before breaks = subst (λ l. UnlessMemory error (FirstBreaks error at before l)) same breaks
 
 pub take_whole : (kids : List Elem) (i : ℕ) → length kids ≤ i → take i kids ≡ kids
 take_whole [] zero whole = refl

@@ -8,7 +8,7 @@ use Rattle.arch_rules.specs.declared.error.LimitKind.TheVariants.{Inputs, NumPin
 use Rattle.arch_rules.specs.declared.role.Role.{Role}
 use Rattle.arch_rules.specs.declared.role.Role.TheVariants as role
 use Rattle.arch_rules.specs.declared.role.Sort.{Sort}
-use Rattle.arch_types.specs.Names.{IsPlainName, IsDarkName}
+use Rattle.arch_types.specs.Names.{IsPlainName, IsUnbrokenName}
 use Rattle.arch_rules.specs.Elements.{name_of, kids_of, how_many, attribute, text_at, Lacks, Holds, HoldsOther}
 use Rattle.arch_rules.specs.Numbers.{IsCount, IsLarge, IsOverEight, IsOne, IsCoordinate, IsPriority}
 use Rattle.arch_rules.specs.Roles.{role_in, required, counted, sort_of, is_pb_type}
@@ -49,7 +49,7 @@ MayName role.Block text = IsPlainName text
 MayName role.PbType text = IsPlainName text
 MayName role.Port text = IsPlainName text
 MayName role.Mode text = IsPlainName text
-MayName role.Inter text = IsDarkName text
+MayName role.Inter text = IsUnbrokenName text
 MayName _ text = Unit {0}
 
 abbrev pub HasOddCount : Role → Elem → Type 0
@@ -117,7 +117,7 @@ IsLatch e = HasPorts e 1 1 1 × AreSingle e (codes "input") × AreSingle e (code
 
 -- `.subckt`, a blank, and one word
 abbrev pub IsBoxOf : List ℕ → List ℕ → Type 0
-IsBoxOf model word = (model ≡ codes ".subckt " ++ word) × IsDarkName word
+IsBoxOf model word = (model ≡ codes ".subckt " ++ word) × IsUnbrokenName word
 
 -- the `blif_model` of a leaf, which has the ports that go with it
 abbrev pub FitsModel : Elem → List ℕ → Type 0

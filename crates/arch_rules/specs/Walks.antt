@@ -101,18 +101,18 @@ abbrev pub IsFineFile : Elem → Type 0
 IsFineFile root = AreFine the_file [] (root ∷ [])
 
 -- this is said of the file where the error tells a rule; want of memory may come at any file
-abbrev pub Told : RuleError → Type 0 → Type 0
-Told OutOfMemory P = Unit {0}
-Told _ P = P
+abbrev pub UnlessMemory : RuleError → Type 0 → Type 0
+UnlessMemory OutOfMemory P = Unit {0}
+UnlessMemory _ P = P
 
 -- the error tells the first rule that a file with this root element breaks
 abbrev pub BreaksFirst : Elem → RuleError → Type 0
-BreaksFirst root error = Told error (FirstBreaks error the_file [] (root ∷ []))
+BreaksFirst root error = UnlessMemory error (FirstBreaks error the_file [] (root ∷ []))
 
 -- what an answer says of elements where they stand
 abbrev pub Judges : {T : Type 0} → Result T RuleError → Inside → List Elem → List Elem → Type 0
 Judges (Ok x) at before kids = AreFine at before kids
-Judges (Err error) at before kids = Told error (FirstBreaks error at before kids)
+Judges (Err error) at before kids = UnlessMemory error (FirstBreaks error at before kids)
 
 -- and of one of them
 abbrev pub JudgesOne : {T : Type 0} → Result T RuleError → Inside → List Elem → Elem → Type 0

@@ -6,7 +6,8 @@ use vtr_base::Text;
 
 /// The value of the first attribute of this name.
 pub fn attribute<'a>(elem: &'a Elem, name: &[u8]) -> Option<&'a Text>
-    ensures { MatchOption result (Lacks elem.now name.now) (λ value. attribute elem.now name.now ≡ Some value.now) }
+    ensures { MatchOption result (Lacks elem.now name.now)
+        (λ value. attribute elem.now name.now ≡ Some value.now) }
 {
     for attr in elem.attrs.as_slice() {
         if attr.name.is(name) {

@@ -11,7 +11,8 @@ use vtr_base::Text;
 
 /// The rules on one element, where `is_taken` says whether its name is taken.
 pub fn check_elem(alloc: Global, role: Role, elem: &Elem, is_taken: bool) -> Result<(), RuleError>
-    ensures { MatchResult result (λ _. IsFine role (IsTrue is_taken) elem.now) (λ e. Refuses role (IsTrue is_taken) elem.now e) }
+    ensures { MatchResult result (λ _. IsFine role (IsTrue is_taken) elem.now)
+        (λ e. Refuses role (IsTrue is_taken) elem.now e) }
 {
     check_form(alloc, role, elem)?;
     if is_taken {
@@ -37,7 +38,8 @@ pub fn check_elem(alloc: Global, role: Role, elem: &Elem, is_taken: bool) -> Res
 
 /// The rules on an element's own name and attributes.
 fn check_form(alloc: Global, role: Role, elem: &Elem) -> Result<(), RuleError>
-    ensures { MatchResult result (λ _. IsNumbered role elem.now) (λ e. RefusesForm role elem.now e) }
+    ensures { MatchResult result (λ _. IsNumbered role elem.now)
+        (λ e. RefusesForm role elem.now e) }
 {
     if role == Role::Unknown {
         return Err(RuleError::UnknownElement {

@@ -3,7 +3,7 @@ ghost use Rattle.arch_rules.specs.Elements.{Holds, HoldsOther};
 ghost use Rattle.arch_rules.specs.Forms.{Fits};
 
 use crate::attr::attribute;
-use crate::name::{is_dark_name, is_plain_name};
+use crate::name::{is_plain_name, is_unbroken_name};
 use crate::number::{is_coordinate, is_count, is_large, is_one, is_over_eight, is_priority};
 use elem_text::Elem;
 
@@ -34,7 +34,7 @@ impl Form {
     {
         match self {
             Form::Plain => is_plain_name(text),
-            Form::Dark => is_dark_name(text),
+            Form::Dark => is_unbroken_name(text),
             Form::Direct => text == b"direct".as_slice(),
             Form::Count => is_count(text),
             Form::Large => is_large(text),

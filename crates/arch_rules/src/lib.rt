@@ -10,18 +10,14 @@ mod name;
 mod number;
 mod role;
 mod rules;
-#[cfg(test)]
-mod samples;
 mod shape;
 mod taken;
-#[cfg(test)]
-mod tests;
 mod walk;
 
 pub use attr::{attribute, how_many, is_named, own_name};
 pub use error::{LimitKind, RuleError};
 pub use laws::law_of_the_rules;
-pub use name::{is_dark_name, is_plain_name};
+pub use name::{is_plain_name, is_unbroken_name};
 pub use number::{
     behind_minus, is_coordinate, is_count, is_large, is_one, is_over_eight, is_priority,
     number_up_to,

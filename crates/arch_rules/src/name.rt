@@ -1,7 +1,7 @@
 ghost use Rattle.std.specs.Prelude.{◌≡◌, ◌↔◌, ℕ, List, map, IfOk, IsTrue};
 ghost use Rattle.std.specs.List.{AllPass};
-ghost use Rattle.vtr_base.specs.Spans.{is_white, is_dark};
-ghost use Rattle.arch_types.specs.Names.{is_plain, IsPlainName, IsDarkName};
+ghost use Rattle.vtr_base.specs.Spans.{is_white, is_word_byte};
+ghost use Rattle.arch_types.specs.Names.{is_plain, IsPlainName, IsUnbrokenName};
 
 fn is_white_byte(b: u8) -> bool
     ensures { result ≡ is_white b }
@@ -30,8 +30,8 @@ pub fn is_plain_name(text: &[u8]) -> bool
 }
 
 /// Whether a text may name an interconnect.
-pub fn is_dark_name(text: &[u8]) -> bool
-    ensures { IsTrue result ↔ IsDarkName text.now }
+pub fn is_unbroken_name(text: &[u8]) -> bool
+    ensures { IsTrue result ↔ IsUnbrokenName text.now }
 {
     !text.is_empty() && text.iter().all(|b| !is_white_byte(*b))
 }

@@ -3,9 +3,11 @@ ghost use Rattle.std.specs.Char.{digit_value};
 ghost use Rattle.std.specs.Str.Parse.{IsNumeral, digits_value};
 ghost use Rattle.arch_rules.specs.Numbers.{SpellsNumber, IsCount, IsLarge, IsOne, IsOverEight, IsCoordinate, IsNegated, IsPriority};
 
-/// The number that decimal digits spell, or `most` where it is larger. There may be zeros before it.
+/// The number that decimal digits spell, or `most` where it is larger. There may be zeros before
+/// it.
 pub fn number_up_to(text: &[u8], most: u64) -> Option<u64>
-    ensures { MatchOption result (IsNumeral 10 text.now → ⊥) (λ n. IsNumeral 10 text.now × (n ≡ min (digits_value 10 text.now) most)) }
+    ensures { MatchOption result (IsNumeral 10 text.now → ⊥)
+        (λ n. IsNumeral 10 text.now × (n ≡ min (digits_value 10 text.now) most)) }
 {
     if text.is_empty() {
         return None;
@@ -90,7 +92,8 @@ pub fn is_coordinate(text: &[u8]) -> bool
 
 /// What stands behind a minus.
 pub fn behind_minus(text: &[u8]) -> Option<&[u8]>
-    ensures { MatchOption result ((digits : List ℕ) → IsNegated text.now digits → ⊥) (λ digits. IsNegated text.now digits.now) }
+    ensures { MatchOption result ((digits : List ℕ) → IsNegated text.now digits → ⊥)
+        (λ digits. IsNegated text.now digits.now) }
 {
     let (first, rest) = text.split_first()?;
     if *first == b'-' { Some(rest) } else { None }

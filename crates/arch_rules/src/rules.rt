@@ -44,7 +44,9 @@ pub fn is_unread(role: Role, elem: &Elem) -> bool
 
 /// The first of these attributes that the element lacks.
 fn first_lacking(elem: &Elem, names: &'static [&'static str]) -> Option<&'static str>
-    ensures { MatchOption result ((name : List ℕ) → IsFirstLacking elem.now (map (λ n. n.now) names.now) name → ⊥) (λ name. IsFirstLacking elem.now (map (λ n. n.now) names.now) name.now) }
+    ensures { MatchOption result ((name : List ℕ) → IsFirstLacking elem.now
+        (map (λ n. n.now) names.now) name → ⊥) (λ name. IsFirstLacking elem.now
+        (map (λ n. n.now) names.now) name.now) }
 {
     for name in names {
         if attribute(elem, name.as_bytes()).is_none() {
@@ -56,7 +58,8 @@ fn first_lacking(elem: &Elem, names: &'static [&'static str]) -> Option<&'static
 
 /// The first required attribute that the element lacks.
 pub fn missing(role: Role, elem: &Elem) -> Option<&'static str>
-    ensures { MatchOption result ((name : List ℕ) → IsMissing role elem.now name → ⊥) (λ name. IsMissing role elem.now name.now) }
+    ensures { MatchOption result ((name : List ℕ) → IsMissing role elem.now name → ⊥)
+        (λ name. IsMissing role elem.now name.now) }
 {
     if is_unread(role, elem) {
         return None;
@@ -158,7 +161,8 @@ fn is_lut_model(elem: &Elem) -> bool
 
 /// The limit that a pb_type passes.
 fn pb_type_limit(elem: &Elem) -> Option<LimitKind>
-    ensures { MatchOption result ((which : LimitKind) → Passes Role.PbType elem.now which → ⊥) (λ which. Passes Role.PbType elem.now which) }
+    ensures { MatchOption result ((which : LimitKind) → Passes Role.PbType elem.now which → ⊥)
+        (λ which. Passes Role.PbType elem.now which) }
 {
     if holds(elem, b"num_pb", Form::Large) {
         return Some(LimitKind::NumPb);
@@ -175,7 +179,8 @@ fn pb_type_limit(elem: &Elem) -> Option<LimitKind>
 
 /// The limit that the element passes.
 pub fn passed(role: Role, elem: &Elem) -> Option<LimitKind>
-    ensures { MatchOption result ((which : LimitKind) → Passes role elem.now which → ⊥) (λ which. Passes role elem.now which) }
+    ensures { MatchOption result ((which : LimitKind) → Passes role elem.now which → ⊥)
+        (λ which. Passes role elem.now which) }
 {
     match role {
         Role::SubTile => {

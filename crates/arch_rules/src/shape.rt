@@ -5,7 +5,7 @@ ghost use Rattle.arch_rules.specs.Numbers.{IsOne};
 
 use crate::attr::{attribute, how_many, is_named};
 use crate::form::{Form, holds};
-use crate::name::is_dark_name;
+use crate::name::is_unbroken_name;
 use elem_text::Elem;
 
 /// Whether a pb_type has so many ports of each side.
@@ -23,7 +23,8 @@ fn has_ports(elem: &Elem, inputs: usize, outputs: usize, clocks: usize) -> bool
 
 /// Whether an element is a port of one pin, where it is one of this side.
 fn is_single(port: &Elem, side: &[u8]) -> bool
-    ensures { IsTrue result ↔ (name_of port.now ≡ side.now → Holds port.now (codes "num_pins") IsOne) }
+    ensures { IsTrue result ↔ (name_of port.now ≡ side.now → Holds port.now (codes "num_pins")
+        IsOne) }
 {
     if !is_named(port, side) {
         return true;
@@ -87,10 +88,15 @@ fn is_latch(elem: &Elem) -> bool
 
 /// The name of the model of a box: the one word behind `.subckt` and a blank.
 pub fn box_model(model: &[u8]) -> Option<&[u8]>
-    ensures { MatchOption result ((word : List ℕ) → IsBoxOf model.now word → ⊥) (λ word. IsBoxOf model.now word.now) }
+    ensures { MatchOption result ((word : List ℕ) → IsBoxOf model.now word → ⊥)
+        (λ word. IsBoxOf model.now word.now) }
 {
     let word = model.strip_prefix(b".subckt ")?;
-    if is_dark_name(word) { Some(word) } else { None }
+    if is_unbroken_name(word) {
+        Some(word)
+    } else {
+        None
+    }
 }
 
 /// Whether the text is a `blif_model` and the leaf has the ports that go with it.

@@ -41,7 +41,8 @@ impl<'a> Taken<'a> {
 fn add_name<'a>(seen: &mut BTreeSet<&'a str>, name: &'a str) -> Result<bool, AllocError>
     ensures fresh { IfOk result (λ fresh. fresh ≡ true → HoldsName seen.old name.now → ⊥) }
     ensures stale { IfOk result (λ fresh. fresh ≡ false → HoldsName seen.old name.now) }
-    ensures met { IfOk result (λ fresh. (n : List ℕ) → HoldsName seen.new n ↔ (HoldsName seen.old n ⊎ (n ≡ name.now))) }
+    ensures met { IfOk result (λ fresh. (n : List ℕ) → HoldsName seen.new n ↔
+        (HoldsName seen.old n ⊎ (n ≡ name.now))) }
 {
     Ok(seen.insert(name)?)
 }

@@ -60,8 +60,10 @@ fn is_second<'a>(
     elem: &'a Elem,
 ) -> Result<bool, AllocError>
     requires { role ≡ role_at (place_in at) elem.now }
-    ensures told { IfOk result (λ second. (before : List Elem) → Knows (place_in at.entry) taken.old before → IsTrue second ↔ IsSecond (place_in at.entry) before elem.now) }
-    ensures knows { IfOk result (λ second. (before : List Elem) → Knows (place_in at.entry) taken.old before → Knows (place_in at.entry) taken.new (before ++ elem.now ∷ [])) }
+    ensures told { IfOk result (λ second. (before : List Elem) → Knows (place_in at.entry) taken.old
+        before → IsTrue second ↔ IsSecond (place_in at.entry) before elem.now) }
+    ensures knows { IfOk result (λ second. (before : List Elem) → Knows (place_in at.entry)
+        taken.old before → Knows (place_in at.entry) taken.new (before ++ elem.now ∷ [])) }
 {
     match role.sort() {
         Some(sort) => {
@@ -80,8 +82,10 @@ fn is_taken<'a>(
     elem: &'a Elem,
 ) -> Result<bool, AllocError>
     requires { role ≡ role_at (place_in at) elem.now }
-    ensures told { IfOk result (λ second. (before : List Elem) → Knows (place_in at.entry) taken.old before → IsTrue second ↔ IsTaken (place_in at.entry) before elem.now) }
-    ensures knows { IfOk result (λ second. (before : List Elem) → Knows (place_in at.entry) taken.old before → Knows (place_in at.entry) taken.new (before ++ elem.now ∷ [])) }
+    ensures told { IfOk result (λ second. (before : List Elem) → Knows (place_in at.entry) taken.old
+        before → IsTrue second ↔ IsTaken (place_in at.entry) before elem.now) }
+    ensures knows { IfOk result (λ second. (before : List Elem) → Knows (place_in at.entry)
+        taken.old before → Knows (place_in at.entry) taken.new (before ++ elem.now ∷ [])) }
 {
     if is_second(at, role, taken, elem)? {
         return Ok(true);
@@ -98,8 +102,10 @@ fn check_one<'a>(
     elem: &'a Elem,
 ) -> Result<(), RuleError>
     requires { role ≡ role_at (place_in at) elem.now }
-    ensures told { (before : List Elem) → Knows (place_in at.entry) taken.old before → JudgesOne result (place_in at.entry) before elem.now }
-    ensures knows { OnOk result ((before : List Elem) → Knows (place_in at.entry) taken.old before → Knows (place_in at.entry) taken.new (before ++ elem.now ∷ [])) }
+    ensures told { (before : List Elem) → Knows (place_in at.entry) taken.old before → JudgesOne
+        result (place_in at.entry) before elem.now }
+    ensures knows { OnOk result ((before : List Elem) → Knows (place_in at.entry) taken.old before
+        → Knows (place_in at.entry) taken.new (before ++ elem.now ∷ [])) }
 {
     let is_taken = is_taken(at, role, taken, elem)?;
     check_elem(alloc, role, elem, is_taken)
@@ -113,8 +119,10 @@ fn check_inside<'a>(
     elem: &'a Elem,
 ) -> Result<(), RuleError>
     requires { is_below (place_in at).parent ≡ true }
-    ensures told { (before : List Elem) → Knows (place_in at.entry) taken.old before → Judges result (place_in at.entry) before (kids_of elem.now) }
-    ensures knows { OnOk result ((before : List Elem) → Knows (place_in at.entry) taken.old before → Knows (place_in at.entry) taken.new (before ++ kids_of elem.now)) }
+    ensures told { (before : List Elem) → Knows (place_in at.entry) taken.old before → Judges result
+        (place_in at.entry) before (kids_of elem.now) }
+    ensures knows { OnOk result ((before : List Elem) → Knows (place_in at.entry) taken.old before
+        → Knows (place_in at.entry) taken.new (before ++ kids_of elem.now)) }
 {
     for kid in elem.kids.as_slice() {
         let role = at.parent.of_child(&kid.name);
@@ -143,8 +151,11 @@ fn check_list<'a>(
 ) -> Result<(), RuleError>
     requires root { at.parent ≡ Role.Architecture }
     requires role { role ≡ role_at (place_in at) list.now }
-    ensures told { (before : List Elem) → KnowsLists (place_in at.entry) lists.old before → Judges result (inside (place_in at.entry) list.now) (cousins (role_at (place_in at.entry) list.now) before) (kids_of list.now) }
-    ensures knows { OnOk result ((before : List Elem) → KnowsLists (place_in at.entry) lists.old before → KnowsLists (place_in at.entry) lists.new (before ++ list.now ∷ [])) }
+    ensures told { (before : List Elem) → KnowsLists (place_in at.entry) lists.old before → Judges
+        result (inside (place_in at.entry) list.now)
+        (cousins (role_at (place_in at.entry) list.now) before) (kids_of list.now) }
+    ensures knows { OnOk result ((before : List Elem) → KnowsLists (place_in at.entry) lists.old
+        before → KnowsLists (place_in at.entry) lists.new (before ++ list.now ∷ [])) }
 {
     let inner = at.inside(role, list);
     match role {

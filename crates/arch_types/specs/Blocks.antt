@@ -13,7 +13,7 @@ use Rattle.arch_types.specs.declared.block.Pattern.{Pattern}
 use Rattle.arch_types.specs.declared.block.Meta.{Meta}
 use Rattle.arch_types.specs.Tree.{name_of_mode, kids_of, inters_of, metas_of, block_names}
 use Rattle.arch_types.specs.Preorder.{preorder}
-use Rattle.arch_types.specs.Names.{IsPlainName, IsDarkName, AreDifferent}
+use Rattle.arch_types.specs.Names.{IsPlainName, IsUnbrokenName, AreDifferent}
 use Rattle.arch_types.specs.Counts.{IsCount, IsShort}
 
 -- Ports
@@ -102,7 +102,7 @@ pub record ArePatterns (patterns : List Pattern) : Type 0 where
   pub few : IsShort patterns
 
 pub record IsInter (inter : Inter) : Type 0 where
-  pub name : IsDarkName inter.name
+  pub name : IsUnbrokenName inter.name
   pub utf8 : IsUtf8 inter.name
   pub input : IsUtf8 inter.input
   pub output : IsUtf8 inter.output

@@ -1,7 +1,7 @@
 -- Names of architecture files.
 use Rattle.std.specs.Prelude.{◌≢◌, ◌==◌, ◌||◌, ℕ, Bool, not, List, []}
 use Rattle.std.specs.List.{AllPass, AllPairs}
-use Rattle.vtr_base.specs.Spans.{is_white, is_dark}
+use Rattle.vtr_base.specs.Spans.{is_white, is_word_byte}
 
 -- white space, or one of / : . [ ] { } = # , \ "
 abbrev pub is_mark : ℕ → Bool
@@ -18,9 +18,9 @@ pub record IsPlainName (name : List ℕ) : Type 0 where
   pub plain : AllPass is_plain name
 
 -- a name of an interconnect: not empty, and without white space
-pub record IsDarkName (name : List ℕ) : Type 0 where
+pub record IsUnbrokenName (name : List ℕ) : Type 0 where
   pub some : name ≢ []
-  pub dark : AllPass is_dark name
+  pub dark : AllPass is_word_byte name
 
 -- no two of the names are equal
 abbrev pub AreDifferent : List (List ℕ) → Type 0

@@ -28,9 +28,15 @@ impl Model for Arch {
 
     ghost use Rattle.arch_types.specs.WellFormed.{IsWellFormed};
 
-    ghost view = { λ a. record { models = a.models; tiles = a.tiles; layouts = a.layouts; blocks = a.blocks } };
+    ghost view = { λ a. record {
+      models = a.models;
+      tiles = a.tiles;
+      layouts = a.layouts;
+      blocks = a.blocks;
+    } };
 
-    ghost invariant = { λ a. IsWellFormed (record { models = a.models; tiles = a.tiles; layouts = a.layouts; blocks = a.blocks }) };
+    ghost invariant = { λ a. IsWellFormed (record
+        { models = a.models; tiles = a.tiles; layouts = a.layouts; blocks = a.blocks }) };
 }
 
 impl Arch {

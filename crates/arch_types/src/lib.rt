@@ -9,6 +9,3 @@ mod tree;
 pub use arch::{Arch, ArchParts, CellModel, Layout, Single, Tile};
 pub use block::{AtomKind, Inter, InterKind, Kind, Meta, Mode, Pattern, PbType, Port, Side};
 pub use tree::walk;
-
-#[cfg(test)]
-mod tests;

@@ -16,7 +16,8 @@ pub fn walk(alloc: Global, block: &PbType) -> Result<Vec<&PbType>, AllocError>
 
 /// Appends the pb_types of a tree in preorder.
 fn walk_into<'a>(found: &mut Vec<&'a PbType>, block: &'a PbType) -> Result<(), AllocError>
-    ensures { OnOk result (map (λ r. r.now) found.new.items ≡ map (λ r. r.now) found.old.items ++ preorder block.now) }
+    ensures { OnOk result (map (λ r. r.now) found.new.items ≡ map (λ r. r.now) found.old.items
+        ++ preorder block.now) }
 {
     found.push(block)?;
     match &block.kind {

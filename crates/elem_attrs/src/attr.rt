@@ -14,7 +14,8 @@ pub fn has_tag(elem: &Elem, name: &[u8]) -> bool
 /// The value of the first attribute of this name. The names of one element's attributes differ in
 /// a text that was read, so there is no other.
 pub fn attribute<'a>(elem: &'a Elem, name: &[u8]) -> Option<&'a Text>
-    ensures { MatchOption result (LacksAttribute elem.now name.now) (λ value. HasAttribute elem.now name.now value.now) }
+    ensures { MatchOption result (LacksAttribute elem.now name.now)
+        (λ value. HasAttribute elem.now name.now value.now) }
 {
     for attr in elem.attrs.as_slice() {
         if attr.name.is(name) {

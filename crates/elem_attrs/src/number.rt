@@ -24,7 +24,8 @@ pub fn number_up_to(text: &[u8], most: u64) -> Option<u64>
 /// The number that has one digit more, where the byte is one and the number isn't too large.
 fn with_digit(value: u64, b: u8, most: u64) -> Option<u64>
     requires { value ≤ most }
-    ensures { SomeIff result ((digit_value b < 10) × (value * 10 + digit_value b ≤ most)) (value * 10 + digit_value b) }
+    ensures { SomeIff result ((digit_value b < 10) × (value * 10 + digit_value b ≤ most))
+        (value * 10 + digit_value b) }
 {
     let digit = decimal_digit(b)?;
     let more = value.checked_mul(10)?.checked_add(digit)?;

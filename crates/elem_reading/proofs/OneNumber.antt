@@ -3,7 +3,7 @@ use Rattle.std.proofs.Common.{◌≡◌, ℕ, List, Some, sym, ap, ◌∙◌}
 use Rattle.std.specs.Str.Parse.{digits_value}
 use Rattle.elem_text.specs.declared.elem.Elem.{Elem}
 use Rattle.elem_attrs.specs.Attributes.{HasAttribute}
-use Rattle.elem_reading.specs.HeldNumbers.{HasNumber}
+use Rattle.elem_reading.specs.AttributeNumbers.{HasNumber}
 
 pub one_value : (e : Elem) (name v w : List ℕ) → HasAttribute e name v → HasAttribute e name w → v ≡ w
 one_value e name v w has_v has_w = let both : Some v ≡ Some w = sym has_v ∙ has_w in cc

@@ -1,2 +1,2 @@
-pub mod HeldNumbers
+pub mod AttributeNumbers
 pub mod Kids

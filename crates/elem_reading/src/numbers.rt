@@ -1,7 +1,7 @@
 ghost use Rattle.std.specs.Prelude.{ℕ, List, MatchOption};
 ghost use Rattle.elem_attrs.specs.Attributes.{HasAttribute, LacksAttribute};
 ghost use Rattle.text_parts.specs.Numerals.{Reads};
-ghost use Rattle.elem_reading.specs.HeldNumbers.{HasNumber};
+ghost use Rattle.elem_reading.specs.AttributeNumbers.{HasNumber};
 
 use elem_attrs::attribute;
 use elem_text::Elem;

@@ -62,7 +62,8 @@ pub fn until(bytes: &[u8], stop: u8) -> (&[u8], &[u8])
 
 /// What follows the byte `b`, where the bytes begin with it.
 pub fn byte(bytes: &[u8], b: u8) -> Option<&[u8]>
-    ensures { MatchOption result ((rest : List ℕ) → bytes.now ≡ b ∷ rest → ⊥) (λ rest. bytes.now ≡ b ∷ rest.now) }
+    ensures { MatchOption result ((rest : List ℕ) → bytes.now ≡ b ∷ rest → ⊥)
+        (λ rest. bytes.now ≡ b ∷ rest.now) }
 {
     let Some((first, rest)) = bytes.split_first() else {
         return None;

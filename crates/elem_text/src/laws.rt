@@ -8,8 +8,8 @@ use crate::reader::read_elems;
 use crate::writer::write_elem;
 use std::alloc::Global;
 
-/// The laws of the grammar, so that what `read_elems` promises of its answers decides each answer: a
-/// file spells at most one element, and breaks at most at one place; and one that breaks neither
+/// The laws of the grammar, so that what `read_elems` promises of its answers decides each answer:
+/// a file spells at most one element, and breaks at most at one place; and one that breaks neither
 /// spells an element nor is nested too deep before. It does nothing.
 pub fn laws_of_the_grammar()
     ensures one_element { SpellsOneElement }

@@ -14,10 +14,9 @@ mod references;
 mod stack;
 mod tag_attrs;
 mod tags;
-#[cfg(test)]
-mod tests;
 mod writer;
 
+pub use bytes::place_after;
 pub use elem::{Attr, Elem};
 pub use error::ElemError;
 pub use laws::{laws_of_the_grammar, read_back};

@@ -13,7 +13,8 @@ use std::alloc::Global;
 /// Whether `-->` stands at `n`.
 fn ends_comment(bytes: &[u8], n: usize) -> bool
     requires { n + 2 < length bytes.now }
-    ensures { result ≡ ((slice_index bytes.now (n + 2) == 62) && ((slice_index bytes.now (n + 1) == 45) && (slice_index bytes.now n == 45))) }
+    ensures { result ≡ ((slice_index bytes.now (n + 2) == 62)
+        && ((slice_index bytes.now (n + 1) == 45) && (slice_index bytes.now n == 45))) }
 {
     bytes[n + 2] == b'>' && bytes[n + 1] == b'-' && bytes[n] == b'-'
 }
@@ -81,7 +82,8 @@ fn instruction(inside: &[u8]) -> Result<&[u8], Flaw>
 /// What stands in a tag's place behind `<`, and what follows it.
 fn behind_angle(alloc: Global, inside: &[u8]) -> Result<(Lex<'_>, &[u8]), Flaw>
     requires { IsUtf8 inside.now }
-    ensures whole { IfOk result (λ r. (at : Place) → IsLex at (60 ∷ inside.now) (lexed at r.0) r.1.now) }
+    ensures whole { IfOk result (λ r. (at : Place) → IsLex at (60 ∷ inside.now) (lexed at r.0)
+        r.1.now) }
     ensures utf8 { IfOk result (λ r. IsUtf8Lex r.0 × IsUtf8 r.1.now) }
     ensures flaw { IfErr result (λ f. IsFlawOf APiece f (60 ∷ inside.now)) }
 {

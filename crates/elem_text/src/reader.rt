@@ -35,7 +35,8 @@ pub fn read_elems(alloc: Global, bytes: &[u8]) -> Result<Elem, ElemError>
 
 /// What follows a byte order mark.
 fn behind_mark(bytes: &[u8]) -> Option<&[u8]>
-    ensures { MatchOption result (has_mark bytes.now ≡ false) (λ body. (has_mark bytes.now ≡ true) × (bytes.now ≡ 239 ∷ 187 ∷ 191 ∷ body.now)) }
+    ensures { MatchOption result (has_mark bytes.now ≡ false)
+        (λ body. (has_mark bytes.now ≡ true) × (bytes.now ≡ 239 ∷ 187 ∷ 191 ∷ body.now)) }
 {
     let Some(second) = byte(bytes, 0xef) else {
         return None;
@@ -109,10 +110,13 @@ fn front_of<'a>(bytes: &'a [u8], rest: &[u8]) -> &'a [u8]
 /// Lets a piece change what is open.
 fn take(opened: &mut Opened, alloc: Global, lex: Lex<'_>, place: Place) -> Result<(), Refusal>
     requires { IsUtf8Lex lex }
-    ensures ok { OnOk result (IsAllowed (stack_of opened.old) (lexed place lex.entry) × (stack_of opened.new ≡ next (stack_of opened.old) (lexed place lex.entry))) }
-    ensures broken { IsErrOf result Refusal.Broken → IsAllowed (stack_of opened.old) (lexed place lex.entry) → ⊥ }
+    ensures ok { OnOk result (IsAllowed (stack_of opened.old) (lexed place lex.entry)
+        × (stack_of opened.new ≡ next (stack_of opened.old) (lexed place lex.entry))) }
+    ensures broken { IsErrOf result Refusal.Broken → IsAllowed (stack_of opened.old)
+        (lexed place lex.entry) → ⊥ }
     ensures shallow { OnOk result (IsShallowFor (stack_of opened.old) (lexed place lex.entry)) }
-    ensures deep { IsErrOf result Refusal.Deep → IsTooDeepFor (stack_of opened.old) (lexed place lex.entry) }
+    ensures deep { IsErrOf result Refusal.Deep → IsTooDeepFor (stack_of opened.old)
+        (lexed place lex.entry) }
 {
     match lex {
         Lex::Opens(name, attrs) => opened.open(alloc, name, attrs, place),

@@ -70,8 +70,14 @@ fn push_referred<'a>(out: &mut Text, at: &'a [u8]) -> Result<&'a [u8], AllocErro
 
 /// The character that the bytes behind an ampersand stand for, and what follows its semicolon.
 fn referred(bytes: &[u8]) -> Option<(char, &[u8])>
-    ensures exact { MatchOption result (reference bytes.now ≡ None) (λ r. reference bytes.now ≡ Some (record { char = r.0; len = length bytes.now - length r.1.now })) }
-    ensures semicolon { IfSome result (λ r. (front : List ℕ) × (bytes.now ≡ front ++ 59 ∷ r.1.now)) }
+    ensures exact { MatchOption result (reference bytes.now ≡ None)
+        (λ r. reference bytes.now ≡ Some (record {
+          char = r.0;
+          len = length bytes.now - length
+              r.1.now;
+        })) }
+    ensures semicolon { IfSome result (λ r. (front : List ℕ)
+        × (bytes.now ≡ front ++ 59 ∷ r.1.now)) }
 {
     if let Some(rest) = behind_word(bytes, b"lt;") {
         return Some(('<', rest));
@@ -99,7 +105,8 @@ fn referred(bytes: &[u8]) -> Option<(char, &[u8])>
 
 /// What follows `word`, where the bytes begin with it.
 fn behind_word<'a>(bytes: &'a [u8], word: &[u8]) -> Option<&'a [u8]>
-    ensures { MatchOption result (begins word.now bytes.now ≡ false) (λ rest. (begins word.now bytes.now ≡ true) × (bytes.now ≡ word.now ++ rest.now)) }
+    ensures { MatchOption result (begins word.now bytes.now ≡ false)
+        (λ rest. (begins word.now bytes.now ≡ true) × (bytes.now ≡ word.now ++ rest.now)) }
 {
     bytes.strip_prefix(word)
 }
@@ -122,8 +129,11 @@ fn digits(bytes: &[u8], base: u32) -> (&[u8], &[u8])
 fn number(bytes: &[u8], base: u32) -> Option<(char, &[u8])>
     requires least { 2 ≤ base }
     requires most { base ≤ 36 }
-    ensures exact { MatchOption result ((past : ℕ) → numbered base past bytes.now ≡ None) (λ r. (past : ℕ) → numbered base past bytes.now ≡ Some (record { char = r.0; len = past + (length bytes.now - length r.1.now) })) }
-    ensures semicolon { IfSome result (λ r. (front : List ℕ) × (bytes.now ≡ front ++ 59 ∷ r.1.now)) }
+    ensures exact { MatchOption result ((past : ℕ) → numbered base past bytes.now ≡ None)
+        (λ r. (past : ℕ) → numbered base past bytes.now ≡ Some
+        (record { char = r.0; len = past + (length bytes.now - length r.1.now) })) }
+    ensures semicolon { IfSome result (λ r. (front : List ℕ)
+        × (bytes.now ≡ front ++ 59 ∷ r.1.now)) }
 {
     let (digits, rest) = digits(bytes, base);
     let Some(rest) = byte(rest, b';') else {

@@ -96,10 +96,13 @@ impl Opened {
         place: Place,
     ) -> Result<(), Refusal>
         requires { IsUtf8 name.now }
-        ensures ok { OnOk result (IsAllowed (stack_of self.old) (opens name.now attrs place) × (stack_of self.new ≡ next (stack_of self.old) (opens name.now attrs place))) }
+        ensures ok { OnOk result (IsAllowed (stack_of self.old) (opens name.now attrs place)
+            × (stack_of self.new ≡ next (stack_of self.old) (opens name.now attrs place))) }
         ensures shallow { OnOk result (length (stack_of self.old).below < 64) }
-        ensures broken { IsErrOf result Refusal.Broken → IsAllowed (stack_of self.old) (opens name.now attrs place) → ⊥ }
-        ensures deep { IsErrOf result Refusal.Deep → IsAllowed (stack_of self.old) (opens name.now attrs place) × (64 ≤ length (stack_of self.old).below) }
+        ensures broken { IsErrOf result Refusal.Broken → IsAllowed (stack_of self.old)
+            (opens name.now attrs place) → ⊥ }
+        ensures deep { IsErrOf result Refusal.Deep → IsAllowed (stack_of self.old)
+            (opens name.now attrs place) × (64 ≤ length (stack_of self.old).below) }
     {
         if !self.has_room() {
             return Err(Refusal::Broken);
@@ -128,10 +131,13 @@ impl Opened {
         place: Place,
     ) -> Result<(), Refusal>
         requires { IsUtf8 name.now }
-        ensures ok { OnOk result (IsAllowed (stack_of self.old) (hollow name.now attrs place) × (stack_of self.new ≡ next (stack_of self.old) (hollow name.now attrs place))) }
+        ensures ok { OnOk result (IsAllowed (stack_of self.old) (hollow name.now attrs place)
+            × (stack_of self.new ≡ next (stack_of self.old) (hollow name.now attrs place))) }
         ensures shallow { OnOk result (length (stack_of self.old).below < 64) }
-        ensures broken { IsErrOf result Refusal.Broken → IsAllowed (stack_of self.old) (hollow name.now attrs place) → ⊥ }
-        ensures deep { IsErrOf result Refusal.Deep → IsAllowed (stack_of self.old) (hollow name.now attrs place) × (64 ≤ length (stack_of self.old).below) }
+        ensures broken { IsErrOf result Refusal.Broken → IsAllowed (stack_of self.old)
+            (hollow name.now attrs place) → ⊥ }
+        ensures deep { IsErrOf result Refusal.Deep → IsAllowed (stack_of self.old)
+            (hollow name.now attrs place) × (64 ≤ length (stack_of self.old).below) }
     {
         if !self.has_room() {
             return Err(Refusal::Broken);
@@ -152,8 +158,10 @@ impl Opened {
 
     /// An end tag.
     pub fn close(&mut self, name: &[u8]) -> Result<(), Refusal>
-        ensures ok { OnOk result (IsAllowed (stack_of self.old) (closes name.now) × (stack_of self.new ≡ next (stack_of self.old) (closes name.now))) }
-        ensures broken { IsErrOf result Refusal.Broken → IsAllowed (stack_of self.old) (closes name.now) → ⊥ }
+        ensures ok { OnOk result (IsAllowed (stack_of self.old) (closes name.now)
+            × (stack_of self.new ≡ next (stack_of self.old) (closes name.now))) }
+        ensures broken { IsErrOf result Refusal.Broken → IsAllowed (stack_of self.old)
+            (closes name.now) → ⊥ }
         ensures deep { IsErrOf result Refusal.Deep → ⊥ }
     {
         if !self.top.name.is(name) {
@@ -183,8 +191,10 @@ impl Opened {
     /// A run of text.
     pub fn text(&mut self, raw: &[u8]) -> Result<(), Refusal>
         requires { IsUtf8 raw.now }
-        ensures ok { OnOk result (IsAllowed (stack_of self.old) (run raw.now) × (stack_of self.new ≡ next (stack_of self.old) (run raw.now))) }
-        ensures broken { IsErrOf result Refusal.Broken → IsAllowed (stack_of self.old) (run raw.now) → ⊥ }
+        ensures ok { OnOk result (IsAllowed (stack_of self.old) (run raw.now)
+            × (stack_of self.new ≡ next (stack_of self.old) (run raw.now))) }
+        ensures broken { IsErrOf result Refusal.Broken → IsAllowed (stack_of self.old) (run raw.now)
+            → ⊥ }
         ensures deep { IsErrOf result Refusal.Deep → ⊥ }
     {
         if !self.may_hold(raw) {
@@ -196,7 +206,8 @@ impl Opened {
 
     /// The root, where the file may end here.
     pub fn root(self) -> Option<Elem>
-        ensures { MatchOption result (IsUnfinished (stack_of self)) (λ e. IsFinished (stack_of self) e) }
+        ensures { MatchOption result (IsUnfinished (stack_of self))
+            (λ e. IsFinished (stack_of self) e) }
     {
         let Opened { mut top, below } = self;
         if !below.is_empty() {

@@ -11,7 +11,8 @@ use std::alloc::{AllocError, Global};
 use std::collections::BTreeSet;
 use std::marker::Model;
 
-/// So many names of one tag are compared one by one, which is the faster way as long as they are few.
+/// So many names of one tag are compared one by one, which is the faster way as long as they are
+/// few.
 const FEW: usize = 8;
 
 /// An attribute as it stands in the file, and what follows it.
@@ -22,9 +23,9 @@ pub struct RawAttr<'a> {
     pub after: &'a [u8],
 }
 
-/// The attributes of one start tag that were read so far. Contracts see their list. The names of the
-/// first few are compared one by one, and those of all others through a set, so that reading a tag
-/// is n log n in its attributes.
+/// The attributes of one start tag that were read so far. Contracts see their list. The names of
+/// the first few are compared one by one, and those of all others through a set, so that reading a
+/// tag is n log n in its attributes.
 #[derive(Drop)]
 pub struct TagAttrs<'a> {
     attrs: Items<Attr>,
@@ -96,7 +97,8 @@ fn add_later<'a>(
     name: &'a [u8],
 ) -> Result<(), AllocError>
     requires { HasLaterNames attrs.now later.old }
-    ensures { OnOk result ((a : Attr) → a.name ≡ name.now → HasLaterNames (attrs.now ++ a ∷ []) later.new) }
+    ensures { OnOk result ((a : Attr) → a.name ≡ name.now → HasLaterNames (attrs.now ++ a ∷ [])
+        later.new) }
 {
     if attrs.len() < FEW {
         return Ok(());

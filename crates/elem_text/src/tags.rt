@@ -66,7 +66,8 @@ fn quoted(bytes: &[u8]) -> Result<(&[u8], &[u8]), Flaw>
 /// What follows `b`, before which white space may stand.
 fn sign(bytes: &[u8], b: u8) -> Result<&[u8], Flaw>
     requires { is_white b ≡ false }
-    ensures whole { IfOk result (λ rest. (gap : List ℕ) × IsSpan is_white bytes.now gap (b ∷ rest.now)) }
+    ensures whole { IfOk result (λ rest. (gap : List ℕ) × IsSpan is_white bytes.now gap
+        (b ∷ rest.now)) }
     ensures flaw { IfErr result (λ f. IsFlawOf (ASign b) f bytes.now) }
 {
     let (_, rest) = white(bytes);
@@ -104,7 +105,8 @@ pub struct TagEnd<'a> {
 
 /// The end of a tag, where one stands here.
 fn tag_end(bytes: &[u8]) -> Result<Option<TagEnd<'_>>, Flaw>
-    ensures whole { IfOk result (λ t. IfSome t (λ end. bytes.now ≡ tail_of end.empty end.rest.now)) }
+    ensures whole { IfOk result (λ t. IfSome t (λ end. bytes.now ≡ tail_of end.empty
+        end.rest.now)) }
     ensures none { IfOk result (λ t. IfNone t (NoTail bytes.now)) }
     ensures flaw { IfErr result (λ f. IsSlash f bytes.now) }
 {
@@ -154,7 +156,8 @@ pub struct TagRest<'a> {
 /// What follows the name of a start tag.
 fn tag_rest(alloc: Global, bytes: &[u8]) -> Result<TagRest<'_>, Flaw>
     requires { IsUtf8 bytes.now }
-    ensures whole { IfOk result (λ r. Attributes [] bytes.now r.attrs (tail_of r.end.empty r.end.rest.now)) }
+    ensures whole { IfOk result (λ r. Attributes [] bytes.now r.attrs
+        (tail_of r.end.empty r.end.rest.now)) }
     ensures utf8 { IfOk result (λ r. IsUtf8 r.end.rest.now) }
     ensures flaw { IfErr result (λ f. IsFlawOf (ATagRest []) f bytes.now) }
 {
@@ -177,7 +180,8 @@ fn tag_rest(alloc: Global, bytes: &[u8]) -> Result<TagRest<'_>, Flaw>
 /// The start tag whose `<` stands before `inside`, and what follows it.
 pub fn start_tag(alloc: Global, inside: &[u8]) -> Result<(Lex<'_>, &[u8]), Flaw>
     requires { IsUtf8 inside.now }
-    ensures whole { IfOk result (λ r. (at : Place) → IsLex at (60 ∷ inside.now) (lexed at r.0) r.1.now) }
+    ensures whole { IfOk result (λ r. (at : Place) → IsLex at (60 ∷ inside.now) (lexed at r.0)
+        r.1.now) }
     ensures utf8 { IfOk result (λ r. IsUtf8Lex r.0 × IsUtf8 r.1.now) }
     ensures flaw { IfErr result (λ f. IsFlawOf AStartTag f inside.now) }
 {

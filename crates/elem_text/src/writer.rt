@@ -46,7 +46,8 @@ fn write_end(out: &mut Vec<u8>, elem: &Elem) -> Result<(), AllocError>
 
 fn write_attrs(out: &mut Vec<u8>, attrs: &[Attr]) -> Result<(), AllocError>
     ensures text { OnOk result (out.new.items ≡ out.old.items ++ flat_map attr_text attrs.now) }
-    ensures part { OnErr result (IsPart out.old.items (flat_map attr_text attrs.now) out.new.items) }
+    ensures part { OnErr result (IsPart out.old.items (flat_map attr_text attrs.now)
+        out.new.items) }
     ensures utf8 { OnOk result (IsUtf8 (flat_map attr_text attrs.now)) }
 {
     for attr in attrs {

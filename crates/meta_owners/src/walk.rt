@@ -18,9 +18,9 @@ pub enum OwnerStep<'a> {
     EndOfPbType,
 }
 
-/// The owners of metadata in a block type: a pb_type, then mode by mode the mode, its interconnects,
-/// and each of its children with the owners in it (VTR architecture reference, "Architecture
-/// metadata").
+/// The owners of metadata in a block type: a pb_type, then mode by mode the mode, its
+/// interconnects, and each of its children with the owners in it (VTR architecture reference,
+/// "Architecture metadata").
 pub fn owners(alloc: Global, block: &PbType) -> Result<Vec<OwnerStep<'_>>, AllocError>
     ensures { IfOk result (λ steps. map seen steps.items ≡ steps_of block.now) }
 {
@@ -31,7 +31,8 @@ pub fn owners(alloc: Global, block: &PbType) -> Result<Vec<OwnerStep<'_>>, Alloc
 
 /// Appends the steps of a pb_type.
 fn walk_pb_type<'a>(steps: &mut Vec<OwnerStep<'a>>, block: &'a PbType) -> Result<(), AllocError>
-    ensures { OnOk result (map seen steps.new.items ≡ map seen steps.old.items ++ steps_of block.now) }
+    ensures { OnOk result (map seen steps.new.items ≡ map seen steps.old.items ++ steps_of
+        block.now) }
 {
     steps.push(OwnerStep::PbType(block))?;
     match &block.kind {
@@ -55,7 +56,8 @@ fn walk_pb_type<'a>(steps: &mut Vec<OwnerStep<'a>>, block: &'a PbType) -> Result
 
 /// Appends a mode and its interconnects.
 fn open_mode<'a>(steps: &mut Vec<OwnerStep<'a>>, mode: &'a Mode) -> Result<(), AllocError>
-    ensures { OnOk result (map seen steps.new.items ≡ map seen steps.old.items ++ inter_steps mode.now) }
+    ensures { OnOk result (map seen steps.new.items ≡ map seen steps.old.items ++ inter_steps
+        mode.now) }
 {
     steps.push(OwnerStep::Mode(mode))?;
     for inter in mode.inters.as_slice() {

@@ -1,5 +1,5 @@
 use Rattle.std.proofs.Common.{take, map}
-use Rattle.arch_build.specs.Places.{ArePlaces}
+use Rattle.arch_build.specs.NamePlaces.{ArePlaces}
 use Rattle.arch_build.proofs.places.first_places.Given as goal
 
 -- what was gathered, and what is still to come, is all

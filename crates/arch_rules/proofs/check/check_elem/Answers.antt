@@ -1,6 +1,6 @@
 use Rattle.std.proofs.Common.{IsTrue}
 use Rattle.arch_rules.specs.Walks.{IsFine, Refuses}
-use Rattle.arch_rules.proofs.Told.{handed, refuses_form}
+use Rattle.arch_rules.proofs.UnlessMemory.{handed, refuses_form}
 use Rattle.arch_rules.proofs.check.check_elem.Goals as goal
 
 pub returns-in_err-check_form : goal.returns-in_err-check_form

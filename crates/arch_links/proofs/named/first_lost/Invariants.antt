@@ -1,7 +1,0 @@
-use Rattle.std.proofs.Common.{drop}
-use Rattle.arch_links.specs.Links.{nows, IsLost}
-use Rattle.arch_links.proofs.Passing.{IsPassed}
-use Rattle.arch_links.proofs.named.first_lost.Given as goal
-
-abbrev pub invariant-loop-name : goal.invariant-loop-name
-invariant-loop-name l = IsPassed (IsLost l.known) (nows l.names) (nows (drop l.name-index l.names))
