@@ -88,13 +88,6 @@ pub fn one_kid(alloc: Global, kid: PbType) -> Result<Items<PbType>, AllocError> 
     Ok(kids)
 }
 
-/// Two children.
-pub fn two_kids(alloc: Global, first: PbType, second: PbType) -> Result<Items<PbType>, AllocError> {
-    let mut kids = one_kid(alloc, first)?;
-    kids.push(second)?;
-    Ok(kids)
-}
-
 /// One mode.
 pub fn one_mode(alloc: Global, mode: Mode) -> Result<Items<Mode>, AllocError> {
     let mut modes = Items::new(alloc);

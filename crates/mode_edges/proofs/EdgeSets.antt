@@ -10,10 +10,10 @@ use Rattle.arch_types.specs.declared.block.InterKind.TheVariants.{Direct, Comple
 use Rattle.arch_types.specs.Tree.{inters_of}
 use Rattle.mode_edges.specs.declared.pin.LocalPin.{LocalPin}
 use Rattle.mode_edges.specs.declared.pin.LocalEdge.{LocalEdge}
-use Rattle.mode_edges.specs.declared.pin.Role.TheVariants.{Source, End}
+use Rattle.mode_edges.specs.declared.pin.EdgeEnd.TheVariants.{Source, End}
 use Rattle.mode_edges.specs.PinWords.{ReadsPins}
 use Rattle.mode_edges.specs.Edges.{IsPairFrom, GivesFrom, IsEdge, EdgePlace, IsBefore, IsPairTo, GivesAt, StandsAt, StandsBefore, AreEdges, HasMoreEdges}
-use Rattle.mode_edges.specs.Faults.{NamesPins, IsSound}
+use Rattle.mode_edges.specs.Faults.{NamesPins, IsSoundMode}
 use Rattle.mode_edges.specs.Gathered.{AddsInter}
 use Rattle.mode_edges.specs.Pairs.{with_edges, given_by}
 use Rattle.mode_edges.proofs.Gathering.{edge, no_fewer}
@@ -243,7 +243,7 @@ some_at (x ∷ xs) zero inside = (x, refl)
 some_at (x ∷ xs) (suc n) inside = some_at xs n (omega arith)
 
 -- the edges of a mode, after those of its first interconnects
-finished : (block : PbType) (mode : Mode) (more n : ℕ) (edges : List LocalEdge) → n + more ≡ length (inters_of mode) → IsSound block mode → EdgesTo block mode n edges →
+finished : (block : PbType) (mode : Mode) (more n : ℕ) (edges : List LocalEdge) → n + more ≡ length (inters_of mode) → IsSoundMode block mode → EdgesTo block mode n edges →
     (all : List LocalEdge) × EdgesTo block mode (n + more) all × (length edges ≤ length all)
 finished block mode zero n edges whole sound t =
     let same : n ≡ n + 0 = omega arith in
@@ -261,7 +261,7 @@ finished block mode (suc more) n edges whole sound t =
 
 -- where the first interconnects give too many edges, the mode has too many
 pub too_many : (block : PbType) (mode : Mode) (n most : ℕ) (here : Inter) (ins outs : List LocalPin) (old : List LocalEdge) → slice_get (inters_of mode) n ≡ Some here →
-    NamesPins block mode here ins outs → IsSound block mode → EdgesTo block mode n old → most < length (with_edges old (given_by here.kind n ins outs)) →
+    NamesPins block mode here ins outs → IsSoundMode block mode → EdgesTo block mode n old → most < length (with_edges old (given_by here.kind n ins outs)) →
     HasMoreEdges block mode most
 too_many block mode n most here ins outs old is names sound t many =
     let inside = slice_get_within (inters_of mode) n here is in
@@ -283,7 +283,7 @@ inter_added block mode here n number most old new same is adds t =
     (edges_more block mode n here adds.ins adds.outs old new is adds.names added t, adds.adds.1)
 
 pub inter_stops : (block : PbType) (mode : Mode) (here : Inter) (n number most : ℕ) (old new : List LocalEdge) → number ≡ n → slice_get (inters_of mode) n ≡ Some here →
-    AddsInter block mode here number most old new false → IsSound block mode → EdgesTo block mode n old → HasMoreEdges block mode most
+    AddsInter block mode here number most old new false → IsSoundMode block mode → EdgesTo block mode n old → HasMoreEdges block mode most
 inter_stops block mode here n number most old new same is adds sound t =
     too_many block mode n most here adds.ins adds.outs old is adds.names sound t
     (subst (λ (m : ℕ). most < length (with_edges old (given_by here.kind m adds.ins adds.outs))) same adds.adds)

@@ -8,13 +8,13 @@ use Rattle.arch_types.specs.declared.block.PbType.{PbType}
 use Rattle.arch_types.specs.declared.block.Mode.{Mode}
 use Rattle.mode_edges.specs.declared.names.PinGroup.{PinGroup}
 use Rattle.mode_edges.specs.declared.pin.LocalPin.{LocalPin}
-use Rattle.mode_edges.specs.declared.pin.Role.{Role}
+use Rattle.mode_edges.specs.declared.pin.EdgeEnd.{EdgeEnd}
 use Rattle.mode_edges.specs.Faults.{NamesNoPin}
 use Rattle.mode_edges.specs.Groups.{AreNamed, SomeUnnamed, ReadsGroups}
 use Rattle.mode_edges.specs.PinWords.{Names, NamesAll, ReadsPins, without_braces}
 use Rattle.mode_edges.specs.Readers.{pins_of}
 
-named_last : (block : PbType) (mode : Mode) (role : Role) (words : List (List ℕ)) (groups : List PinGroup) (word : List ℕ) (group : PinGroup) →
+named_last : (block : PbType) (mode : Mode) (role : EdgeEnd) (words : List (List ℕ)) (groups : List PinGroup) (word : List ℕ) (group : PinGroup) →
     AreNamed block mode role words groups → Names block mode role word (pins_of group) → AreNamed block mode role (words ++ word ∷ []) (groups ++ group ∷ [])
 named_last block mode role [] [] word group a is = (is, tt)
 named_last block mode role [] (g ∷ gs) word group a is = absurd a
@@ -25,7 +25,7 @@ texts_to : (words : List (Bor (List ℕ))) (i : ℕ) (d : Bor (List ℕ)) → i 
     map (λ w. w.now) (take (i + 1) words) ≡ map (λ w. w.now) (take i words) ++ (get_or words i d).now ∷ []
 texts_to words i d inside = ap (map (λ w. w.now)) (take_more words i d inside) ∙ map-append (λ w. w.now) (take i words) (get_or words i d ∷ [])
 
-pub named_step : (block : PbType) (mode : Mode) (role : Role) (words : List (Bor (List ℕ))) (i : ℕ) (d : Bor (List ℕ)) (old new : List PinGroup) (group : PinGroup) →
+pub named_step : (block : PbType) (mode : Mode) (role : EdgeEnd) (words : List (Bor (List ℕ))) (i : ℕ) (d : Bor (List ℕ)) (old new : List PinGroup) (group : PinGroup) →
     i < length words → new ≡ old ++ group ∷ [] → AreNamed block mode role (map (λ w. w.now) (take i words)) old →
     Names block mode role (get_or words i d).now (pins_of group) → AreNamed block mode role (map (λ w. w.now) (take (i + 1) words)) new
 named_step block mode role words i d old new group inside grown so_far is =
@@ -54,41 +54,41 @@ text_among words i d inside =
         (subst (λ (l : List (List ℕ)). Has l x) (sym (map-append (λ w. w.now) (take n ws) (drop n ws)))
         (has_left (map (λ w. w.now) (take n ws)) (map (λ w. w.now) (drop n ws)) x h))
 
-pub word_unnamed : (block : PbType) (mode : Mode) (role : Role) (words : List (Bor (List ℕ))) (i : ℕ) (d : Bor (List ℕ)) → i < length words →
+pub word_unnamed : (block : PbType) (mode : Mode) (role : EdgeEnd) (words : List (Bor (List ℕ))) (i : ℕ) (d : Bor (List ℕ)) → i < length words →
     ((pins : List LocalPin) → Names block mode role (get_or words i d).now pins → ⊥) → SomeUnnamed block mode role (map (λ w. w.now) words)
 word_unnamed block mode role words i d inside none = record { word = (get_or words i d).now; among = text_among words i d inside; none = none }
 
-pub all_named : (block : PbType) (mode : Mode) (role : Role) (words : List (Bor (List ℕ))) (i : ℕ) (groups : List PinGroup) → length words ≤ i →
+pub all_named : (block : PbType) (mode : Mode) (role : EdgeEnd) (words : List (Bor (List ℕ))) (i : ℕ) (groups : List PinGroup) → length words ≤ i →
     AreNamed block mode role (map (λ w. w.now) (take i words)) groups → AreNamed block mode role (map (λ w. w.now) words) groups
 all_named block mode role words i groups end so_far =
     subst (λ (ws : List (Bor (List ℕ))). AreNamed block mode role (map (λ w. w.now) ws) groups) (take_all i words end) so_far
 
 -- the words of a text that was taken apart
 words_here : (text plain plain' : List ℕ) (words : List (List ℕ)) → plain ≡ without_braces text → plain' ≡ plain → AreWords plain' words → AreWords (without_braces text) words
-words_here text plain plain' words bare same are = subst (λ (t : List ℕ). AreWords t words) (same ∙ bare) are
+words_here text plain plain' words drop_braces same are = subst (λ (t : List ℕ). AreWords t words) (same ∙ drop_braces) are
 
-pub text_unnamed : (block : PbType) (mode : Mode) (role : Role) (text plain plain' : List ℕ) (words words' : List (Bor (List ℕ))) → plain ≡ without_braces text → plain' ≡ plain →
+pub text_unnamed : (block : PbType) (mode : Mode) (role : EdgeEnd) (text plain plain' : List ℕ) (words words' : List (Bor (List ℕ))) → plain ≡ without_braces text → plain' ≡ plain →
     AreWords plain' (map (λ w. w.now) words) → words' ≡ words → SomeUnnamed block mode role (map (λ w. w.now) words') → NamesNoPin block mode role text
-text_unnamed block mode role text plain plain' words words' bare same are same_words none = record {
+text_unnamed block mode role text plain plain' words words' drop_braces same are same_words none = record {
   word = none.word;
   here = record {
     words = map (λ w. w.now) words;
-    are_words = words_here text plain plain' (map (λ w. w.now) words) bare same are;
+    are_words = words_here text plain plain' (map (λ w. w.now) words) drop_braces same are;
     among = subst (λ (ws : List (Bor (List ℕ))). Has (map (λ w. w.now) ws) none.word) same_words none.among;
   };
   none = none.none;
 }
 
-pub text_named : (block : PbType) (mode : Mode) (role : Role) (text plain plain' : List ℕ) (words words' : List (Bor (List ℕ))) (groups : List PinGroup) → plain ≡ without_braces text →
+pub text_named : (block : PbType) (mode : Mode) (role : EdgeEnd) (text plain plain' : List ℕ) (words words' : List (Bor (List ℕ))) (groups : List PinGroup) → plain ≡ without_braces text →
     plain' ≡ plain → AreWords plain' (map (λ w. w.now) words) → words' ≡ words → AreNamed block mode role (map (λ w. w.now) words') groups →
     ReadsGroups block mode role text groups
-text_named block mode role text plain plain' words words' groups bare same are same_words named = record {
+text_named block mode role text plain plain' words words' groups drop_braces same are same_words named = record {
   words = map (λ w. w.now) words;
-  are_words = words_here text plain plain' (map (λ w. w.now) words) bare same are;
+  are_words = words_here text plain plain' (map (λ w. w.now) words) drop_braces same are;
   named = subst (λ (ws : List (Bor (List ℕ))). AreNamed block mode role (map (λ w. w.now) ws) groups) same_words named;
 }
 
-named_pins : (block : PbType) (mode : Mode) (role : Role) (words : List (List ℕ)) (groups : List PinGroup) → AreNamed block mode role words groups →
+named_pins : (block : PbType) (mode : Mode) (role : EdgeEnd) (words : List (List ℕ)) (groups : List PinGroup) → AreNamed block mode role words groups →
     NamesAll block mode role words (flat_map pins_of groups)
 named_pins block mode role [] [] a = refl
 named_pins block mode role [] (g ∷ gs) a = absurd a
@@ -96,6 +96,6 @@ named_pins block mode role (w ∷ ws) [] a = absurd a
 named_pins block mode role (w ∷ ws) (g ∷ gs) a = (pins_of g, flat_map pins_of gs, a.0, named_pins block mode role ws gs a.1, refl)
 
 -- the pins of the groups are those that the text names
-pub groups_pins : (block : PbType) (mode : Mode) (role : Role) (text : List ℕ) (groups : List PinGroup) → ReadsGroups block mode role text groups →
+pub groups_pins : (block : PbType) (mode : Mode) (role : EdgeEnd) (text : List ℕ) (groups : List PinGroup) → ReadsGroups block mode role text groups →
     ReadsPins block mode role text (flat_map pins_of groups)
 groups_pins block mode role text groups r = record { words = r.words; are_words = r.are_words; names = named_pins block mode role r.words groups r.named }

@@ -9,7 +9,7 @@ use Rattle.arch_types.specs.declared.block.Side.{Side}
 use Rattle.arch_types.specs.Tree.{kids_of}
 use Rattle.mode_edges.specs.declared.names.PinGroup.{PinGroup}
 use Rattle.mode_edges.specs.declared.pin.LocalPin.{LocalPin}
-use Rattle.mode_edges.specs.declared.pin.Role.{Role}
+use Rattle.mode_edges.specs.declared.pin.EdgeEnd.{EdgeEnd}
 use Rattle.mode_edges.specs.declared.word.Ends.{Ends}
 use Rattle.mode_edges.specs.declared.word.PinWord.{PinWord}
 use Rattle.mode_edges.specs.PinWords.{Index, Word, IsWord, IsPart, AreMembers, IsOwnHead, IsOwnSide, IsChildSide, child_pin, NamesPort, NamesOwn, NamesChild, Names}
@@ -41,7 +41,7 @@ NoPort ports w = (index : Index) (side : Side) (port : ℕ) (bits : List ℕ) �
 abbrev pub ThePort : List Port → PinWord → Side → ℕ → List ℕ → Type 0
 ThePort ports w side port bits = (index : Index) → Stands w.bits index → NamesPort ports (λ s. s ≡ side) (word_with w index) port bits
 
-pub no_own_port : (block : PbType) (role : Role) (w : PinWord) → NoPort block.ports w →
+pub no_own_port : (block : PbType) (role : EdgeEnd) (w : PinWord) → NoPort block.ports w →
     (index : Index) (pins : List LocalPin) → Stands w.bits index → NamesOwn block role (word_with w index) pins → ⊥
 no_own_port block role w none index pins stands own =
     none index own.names.is.side own.port own.bits stands (any_side block.ports (IsOwnSide role) (word_with w index) own.port own.bits own.names)
@@ -52,7 +52,7 @@ part_read head name ends index name' (i, part, stands) other =
     let same = part_one head name name' i index part other in
     (same.0, subst (Stands ends) same.1 stands)
 
-pub no_kid : (block : PbType) (mode : Mode) (role : Role) (w : PinWord) (kids : List PbType) (name : List ℕ) (ends : Option Ends) → kids ≡ kids_of mode →
+pub no_kid : (block : PbType) (mode : Mode) (role : EdgeEnd) (w : PinWord) (kids : List PbType) (name : List ℕ) (ends : Option Ends) → kids ≡ kids_of mode →
     ReadsPart w.head.now name ends → ((place : ℕ) → IsFirstPlace (map (λ kid. kid.name) kids) name place → ⊥) →
     (index : Index) (pins : List LocalPin) → Stands w.bits index → NamesChild block mode role (word_with w index) pins → ⊥
 no_kid block mode role w kids name ends are part none index pins stands a =
@@ -67,7 +67,7 @@ pub record IsFound (mode : Mode) (head : List ℕ) (kids : List PbType) (name : 
   pub first : IsFirstPlace (map (λ kid. kid.name) kids) name place
   pub there : slice_get kids place ≡ Some kid
 
-kid_found : (block : PbType) (mode : Mode) (role : Role) (w : Word) (pins : List LocalPin) (kids : List PbType) (name : List ℕ) (ends : Option Ends) (place : ℕ) (kid : PbType) →
+kid_found : (block : PbType) (mode : Mode) (role : EdgeEnd) (w : Word) (pins : List LocalPin) (kids : List PbType) (name : List ℕ) (ends : Option Ends) (place : ℕ) (kid : PbType) →
     IsFound mode w.head kids name ends place kid → (a : NamesChild block mode role w pins) → (a.kid ≡ kid) × Stands ends a.index
 kid_found block mode role w pins kids name ends place kid found a =
     let same = part_read w.head name ends a.index a.name found.part a.part in
@@ -77,14 +77,14 @@ kid_found block mode role w pins kids name ends place kid found a =
     let one = kid_one block mode role w pins a.name a.index place kid a a.part first there in
     (one.kid_is, same.1)
 
-pub no_instances : (block : PbType) (mode : Mode) (role : Role) (w : PinWord) (kids : List PbType) (name : List ℕ) (ends : Option Ends) (place : ℕ) (kid : PbType) →
+pub no_instances : (block : PbType) (mode : Mode) (role : EdgeEnd) (w : PinWord) (kids : List PbType) (name : List ℕ) (ends : Option Ends) (place : ℕ) (kid : PbType) →
     IsFound mode w.head.now kids name ends place kid → ((i : Index) (ms : List ℕ) → Stands ends i → AreMembers i kid.count ms → ⊥) →
     (index : Index) (pins : List LocalPin) → Stands w.bits index → NamesChild block mode role (word_with w index) pins → ⊥
 no_instances block mode role w kids name ends place kid found none index pins stands a =
     let k = kid_found block mode role (word_with w index) pins kids name ends place kid found a in
     none a.index a.instances k.1 (subst (λ (p : PbType). AreMembers a.index p.count a.instances) k.0 a.members)
 
-pub no_child_port : (block : PbType) (mode : Mode) (role : Role) (w : PinWord) (kids : List PbType) (name : List ℕ) (ends : Option Ends) (place : ℕ) (kid : PbType) →
+pub no_child_port : (block : PbType) (mode : Mode) (role : EdgeEnd) (w : PinWord) (kids : List PbType) (name : List ℕ) (ends : Option Ends) (place : ℕ) (kid : PbType) →
     IsFound mode w.head.now kids name ends place kid → NoPort kid.ports w →
     (index : Index) (pins : List LocalPin) → Stands w.bits index → NamesChild block mode role (word_with w index) pins → ⊥
 no_child_port block mode role w kids name ends place kid found none index pins stands a =
@@ -92,7 +92,7 @@ no_child_port block mode role w kids name ends place kid found none index pins s
     let names = subst (λ (p : PbType). NamesPort p.ports (IsChildSide role) (word_with w index) a.port a.bits) k.0 a.names in
     none index names.is.side a.port a.bits stands (any_side kid.ports (IsChildSide role) (word_with w index) a.port a.bits names)
 
-pub wrong_child_side : (block : PbType) (mode : Mode) (role : Role) (w : PinWord) (kids : List PbType) (name : List ℕ) (ends : Option Ends) (place : ℕ) (kid : PbType)
+pub wrong_child_side : (block : PbType) (mode : Mode) (role : EdgeEnd) (w : PinWord) (kids : List PbType) (name : List ℕ) (ends : Option Ends) (place : ℕ) (kid : PbType)
     (side : Side) (port : ℕ) (bits : List ℕ) → IsFound mode w.head.now kids name ends place kid → ThePort kid.ports w side port bits → (IsChildSide role side → ⊥) →
     (index : Index) (pins : List LocalPin) → Stands w.bits index → NamesChild block mode role (word_with w index) pins → ⊥
 wrong_child_side block mode role w kids name ends place kid side port bits found the wrong index pins stands a =
@@ -100,7 +100,7 @@ wrong_child_side block mode role w kids name ends place kid side port bits found
     let names = subst (λ (p : PbType). NamesPort p.ports (IsChildSide role) (word_with w index) a.port a.bits) k.0 a.names in
     wrong_side kid.ports (IsChildSide role) side (word_with w index) port a.port bits a.bits wrong (the index stands) names
 
-pub is_child : (block : PbType) (mode : Mode) (role : Role) (w : PinWord) (kids : List PbType) (name : List ℕ) (ends : Option Ends) (place : ℕ) (kid : PbType)
+pub is_child : (block : PbType) (mode : Mode) (role : EdgeEnd) (w : PinWord) (kids : List PbType) (name : List ℕ) (ends : Option Ends) (place : ℕ) (kid : PbType)
     (side : Side) (port : ℕ) (bits : List ℕ) (members : List ℕ) (child : ℕ) → (IsOwnHead block.name w.head.now → ⊥) →
     IsFound mode w.head.now kids name ends place kid → ((i : Index) → Stands ends i → AreMembers i kid.count members) →
     ThePort kid.ports w side port bits → IsChildSide role side → child ≡ place →
@@ -123,7 +123,7 @@ is_child block mode role w kids name ends place kid side port bits members child
   are = refl;
 }
 
-pub names_nothing : (block : PbType) (mode : Mode) (role : Role) (text : List ℕ) → ((w : Word) → IsWord text w → ⊥) → (pins : List LocalPin) → Names block mode role text pins → ⊥
+pub names_nothing : (block : PbType) (mode : Mode) (role : EdgeEnd) (text : List ℕ) → ((w : Word) → IsWord text w → ⊥) → (pins : List LocalPin) → Names block mode role text pins → ⊥
 names_nothing block mode role text none pins a = none a.word a.is
 
 -- what a function answers where the word names exactly the pins that it finds, or none
@@ -147,7 +147,7 @@ answers_more : (P Q : List LocalPin → Type 0) → ((pins : List LocalPin) → 
 answers_more P Q on back None a = λ pins q. a pins (back pins q)
 answers_more P Q on back (Some g) a = on (pins_of g) a
 
-pub names_own : (block : PbType) (mode : Mode) (role : Role) (text : List ℕ) (w : PinWord) (r : Option PinGroup) → ReadsWord text w →
+pub names_own : (block : PbType) (mode : Mode) (role : EdgeEnd) (text : List ℕ) (w : PinWord) (r : Option PinGroup) → ReadsWord text w →
     IsOwnHead block.name w.head.now → AnswersWord w (NamesOwn block role) r → Answers (Names block mode role text) r
 names_own block mode role text w r read own a =
     answers_more (λ pins. (word : Word) × IsWord text word × NamesOwn block role word pins) (Names block mode role text)
@@ -161,7 +161,7 @@ names_own block mode role text w r read own a =
           (word_one text (word_with w read.0) n.word read.1 n.is) own))
     ]
 
-pub names_child : (block : PbType) (mode : Mode) (role : Role) (text : List ℕ) (w : PinWord) (r : Option PinGroup) → ReadsWord text w →
+pub names_child : (block : PbType) (mode : Mode) (role : EdgeEnd) (text : List ℕ) (w : PinWord) (r : Option PinGroup) → ReadsWord text w →
     (IsOwnHead block.name w.head.now → ⊥) → AnswersWord w (NamesChild block mode role) r → Answers (Names block mode role text) r
 names_child block mode role text w r read other a =
     answers_more (λ pins. (word : Word) × IsWord text word × NamesChild block mode role word pins) (Names block mode role text)

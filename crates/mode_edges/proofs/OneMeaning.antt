@@ -8,7 +8,7 @@ use Rattle.arch_types.specs.declared.block.Port.{Port}
 use Rattle.arch_types.specs.declared.block.Side.{Side}
 use Rattle.arch_types.specs.Tree.{kids_of}
 use Rattle.mode_edges.specs.declared.pin.LocalPin.{LocalPin}
-use Rattle.mode_edges.specs.declared.pin.Role.{Role}
+use Rattle.mode_edges.specs.declared.pin.EdgeEnd.{EdgeEnd}
 use Rattle.mode_edges.specs.PinWords.{Index, Word, IsPart, AreMembers, IsOwnSide, IsChildSide, own_pin, child_pin, NamesPort, NamesOwn, NamesChild, Names, NamesAll, ReadsPins, without_braces}
 use Rattle.mode_edges.proofs.OneReading.{part_one, word_one, words_one}
 
@@ -42,7 +42,7 @@ port_one ports F G w port q bits cs a b =
       bits_are = members_one w.bits b.is.width bits cs (subst (λ (p : Port). AreMembers w.bits p.width bits) same a.members) b.members;
     }
 
-pub own_one : (block : PbType) (role : Role) (w : Word) (ps qs : List LocalPin) → NamesOwn block role w ps → NamesOwn block role w qs → ps ≡ qs
+pub own_one : (block : PbType) (role : EdgeEnd) (w : Word) (ps qs : List LocalPin) → NamesOwn block role w ps → NamesOwn block role w qs → ps ≡ qs
 own_one block role w ps qs a b =
     let same = port_one block.ports (IsOwnSide role) (IsOwnSide role) w a.port b.port a.bits b.bits a.names b.names in
     a.are ∙ (ap (λ (n : ℕ). map (own_pin n) a.bits) same.place ∙ (ap (λ (bits : List ℕ). map (own_pin b.port) bits) same.bits_are ∙ sym b.are))
@@ -53,7 +53,7 @@ pub record SameKid (index i : Index) (child c : ℕ) (one other : PbType) : Type
   pub place : child ≡ c
   pub kid_is : one ≡ other
 
-pub kid_one : (block : PbType) (mode : Mode) (role : Role) (w : Word) (pins : List LocalPin) (name : List ℕ) (index : Index) (place : ℕ) (kid : PbType)
+pub kid_one : (block : PbType) (mode : Mode) (role : EdgeEnd) (w : Word) (pins : List LocalPin) (name : List ℕ) (index : Index) (place : ℕ) (kid : PbType)
     (a : NamesChild block mode role w pins) → IsPart w.head name index → IsFirstPlace (map (λ k. k.name) (kids_of mode)) name place →
     slice_get (kids_of mode) place ≡ Some kid → SameKid a.index index a.child place a.kid kid
 kid_one block mode role w pins name index place kid a part first there =
@@ -62,7 +62,7 @@ kid_one block mode role w pins name index place kid a part first there =
     (subst (λ n. IsFirstPlace (map (λ k. k.name) (kids_of mode)) n a.child) same.0 a.first) first in
     record { index_is = same.1; place = at; kid_is = same_item (kids_of mode) a.child place a.kid kid at a.there there }
 
-pub child_one : (block : PbType) (mode : Mode) (role : Role) (w : Word) (ps qs : List LocalPin) → NamesChild block mode role w ps → NamesChild block mode role w qs → ps ≡ qs
+pub child_one : (block : PbType) (mode : Mode) (role : EdgeEnd) (w : Word) (ps qs : List LocalPin) → NamesChild block mode role w ps → NamesChild block mode role w qs → ps ≡ qs
 child_one block mode role w ps qs a b =
     let kid = kid_one block mode role w ps b.name b.index b.child b.kid a b.part b.first b.there in
     let names = subst (λ (k : PbType). NamesPort k.ports (IsChildSide role) w a.port a.bits) kid.kid_is a.names in
@@ -76,19 +76,19 @@ child_one block mode role w ps qs a b =
     ∙ (ap (λ (bits : List ℕ). flat_map (λ instance. map (child_pin b.child instance b.port) bits) a.instances) same.bits_are
     ∙ (ap (λ (is : List ℕ). flat_map (λ instance. map (child_pin b.child instance b.port) b.bits) is) instances ∙ sym b.are))))
 
-word_names_one : (block : PbType) (mode : Mode) (role : Role) (w : Word) (ps qs : List LocalPin) →
+word_names_one : (block : PbType) (mode : Mode) (role : EdgeEnd) (w : Word) (ps qs : List LocalPin) →
     NamesOwn block role w ps ⊎ NamesChild block mode role w ps → NamesOwn block role w qs ⊎ NamesChild block mode role w qs → ps ≡ qs
 word_names_one block mode role w ps qs (inl a) (inl b) = own_one block role w ps qs a b
 word_names_one block mode role w ps qs (inl a) (inr b) = absurd (b.other a.head)
 word_names_one block mode role w ps qs (inr a) (inl b) = absurd (a.other b.head)
 word_names_one block mode role w ps qs (inr a) (inr b) = child_one block mode role w ps qs a b
 
-pub names_one : (block : PbType) (mode : Mode) (role : Role) (text : List ℕ) (ps qs : List LocalPin) → Names block mode role text ps → Names block mode role text qs → ps ≡ qs
+pub names_one : (block : PbType) (mode : Mode) (role : EdgeEnd) (text : List ℕ) (ps qs : List LocalPin) → Names block mode role text ps → Names block mode role text qs → ps ≡ qs
 names_one block mode role text ps qs a b =
     word_names_one block mode role b.word ps qs
     (subst (λ (w : Word). NamesOwn block role w ps ⊎ NamesChild block mode role w ps) (word_one text a.word b.word a.is b.is) a.named) b.named
 
-pub names_all_one : (block : PbType) (mode : Mode) (role : Role) (texts : List (List ℕ)) (ps qs : List LocalPin) →
+pub names_all_one : (block : PbType) (mode : Mode) (role : EdgeEnd) (texts : List (List ℕ)) (ps qs : List LocalPin) →
     NamesAll block mode role texts ps → NamesAll block mode role texts qs → ps ≡ qs
 names_all_one block mode role [] ps qs a b = a ∙ sym b
 names_all_one block mode role (text ∷ texts) ps qs (first, rest, names, more, are) (first', rest', names', more', are') =
@@ -97,7 +97,7 @@ names_all_one block mode role (text ∷ texts) ps qs (first, rest, names, more, 
     are ∙ (ap (λ (f : List LocalPin). f ++ rest) front ∙ (ap (λ (r : List LocalPin). first' ++ r) behind ∙ sym are'))
 
 -- the pins of a list of words are one list
-pub reads_one : (block : PbType) (mode : Mode) (role : Role) (text : List ℕ) (ps qs : List LocalPin) →
+pub reads_one : (block : PbType) (mode : Mode) (role : EdgeEnd) (text : List ℕ) (ps qs : List LocalPin) →
     ReadsPins block mode role text ps → ReadsPins block mode role text qs → ps ≡ qs
 reads_one block mode role text ps qs a b =
     names_all_one block mode role b.words ps qs

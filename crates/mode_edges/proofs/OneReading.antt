@@ -5,7 +5,7 @@ use Rattle.std.specs.Char.{digit_value}
 use Rattle.std.specs.Str.Parse.{AllDigits}
 use Rattle.std.proofs.lemmas.Bool.Decides.{nat_tests}
 use Rattle.std.proofs.lemmas.List.Elements.{All-head, All-tail, All-nil, All-cons}
-use Rattle.vtr_base.specs.Spans.{is_white, is_dark, Lacks, Stops, IsSpan, AreWords}
+use Rattle.vtr_base.specs.Spans.{is_white, is_word_byte, Lacks, Stops, IsSpan, AreWords}
 use Rattle.mode_edges.specs.declared.word.Ends.{Ends}
 use Rattle.mode_edges.specs.PinWords.{Index, AreDigits, IsRange, IsPart, Word, IsWord}
 
@@ -59,14 +59,14 @@ behind_passes p [] x h = h
 behind_passes p (a ∷ es) x h = behind_passes p es x (All-tail (λ v. p v ≡ true) a (es ++ x) h)
 
 -- white space alone holds no word
-pub no_word : (text gap behind word rest : List ℕ) → AllPass is_white text → IsSpan is_white text gap behind → IsSpan is_dark behind word rest → 0 < length word → ⊥
+pub no_word : (text gap behind word rest : List ℕ) → AllPass is_white text → IsSpan is_white text gap behind → IsSpan is_word_byte behind word rest → 0 < length word → ⊥
 no_word text gap behind [] rest white s w some = omega arith
 no_word text gap behind (c ∷ cs) rest white s w some =
     let all : AllPass is_white (gap ++ behind) = subst (AllPass is_white) s.spelled white in
     let tail : AllPass is_white (c ∷ (cs ++ rest)) = subst (AllPass is_white) w.spelled (behind_passes is_white gap behind all) in
     let bright : is_white c ≡ true = All-head (λ v. is_white v ≡ true) c (cs ++ rest) tail in
-    let dark : not (is_white c) ≡ true = All-head (λ v. is_dark v ≡ true) c cs w.all in
-    not_both (is_white c) bright (unnot (is_white c) dark)
+    let word_and_rest : not (is_white c) ≡ true = All-head (λ v. is_word_byte v ≡ true) c cs w.all in
+    not_both (is_white c) bright (unnot (is_white c) word_and_rest)
   where
     unnot : (v : Bool) → not v ≡ true → v ≡ false
     unnot true e = cc
@@ -79,8 +79,8 @@ words_one [] (v ∷ vs) text a b = absurd (no_word text b.0 b.1 v b.2 a b.3 b.4 
 words_one (w ∷ ws) [] text a b = absurd (no_word text a.0 a.1 w a.2 b a.3 a.4 a.5)
 words_one (w ∷ ws) (v ∷ vs) text a b =
     let gaps = same_span is_white text a.0 a.1 b.0 b.1 a.3 b.3 in
-    let first = subst (λ behind. IsSpan is_dark behind v b.2) (sym gaps.1) b.4 in
-    let both = same_span is_dark a.1 w a.2 v b.2 a.4 first in
+    let first = subst (λ behind. IsSpan is_word_byte behind v b.2) (sym gaps.1) b.4 in
+    let both = same_span is_word_byte a.1 w a.2 v b.2 a.4 first in
     let more = words_one ws vs a.2 a.6 (subst (λ rest. AreWords rest vs) (sym both.1) b.6) in
     cc
 

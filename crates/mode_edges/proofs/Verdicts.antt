@@ -15,9 +15,9 @@ use Rattle.mode_edges.specs.declared.faults.EdgeError.TheVariants.{NoSuchPin, Wi
 use Rattle.mode_edges.specs.declared.faults.EdgeError.{EdgeError}
 use Rattle.mode_edges.specs.declared.names.PinGroup.{PinGroup}
 use Rattle.mode_edges.specs.declared.pin.LocalPin.{LocalPin}
-use Rattle.mode_edges.specs.declared.pin.Role.{Role}
-use Rattle.mode_edges.specs.declared.pin.Role.TheVariants.{Source, End}
-use Rattle.mode_edges.specs.Faults.{NamesNoPin, NamesManyPins, NamesPins, IsFaultless, IsFault, IsFirstFault, IsSound}
+use Rattle.mode_edges.specs.declared.pin.EdgeEnd.{EdgeEnd}
+use Rattle.mode_edges.specs.declared.pin.EdgeEnd.TheVariants.{Source, End}
+use Rattle.mode_edges.specs.Faults.{NamesNoPin, NamesManyPins, NamesPins, IsFaultless, IsFault, IsFirstFault, IsSoundMode}
 use Rattle.mode_edges.specs.Groups.{AreNamed, ReadsGroups}
 use Rattle.mode_edges.specs.PinWords.{Names, NamesAll, ReadsPins, ReadsNoPins, ReadsPin, without_braces}
 use Rattle.mode_edges.specs.Readers.{pins_of}
@@ -29,7 +29,7 @@ abbrev pub AnyWide : List PinGroup → Type 0
 AnyWide groups = Any (λ g. 1 < length (pins_of g)) groups
 
 -- the word of a group, and the group of a word
-word_at : (block : PbType) (mode : Mode) (role : Role) (words : List (List ℕ)) (groups : List PinGroup) (k : ℕ) (g : PinGroup) → AreNamed block mode role words groups →
+word_at : (block : PbType) (mode : Mode) (role : EdgeEnd) (words : List (List ℕ)) (groups : List PinGroup) (k : ℕ) (g : PinGroup) → AreNamed block mode role words groups →
     k < length groups → get_or groups k g ≡ g → (word : List ℕ) × Has words word × Names block mode role word (pins_of g)
 word_at block mode role [] [] k g a inside is = absurd (omega arith)
 word_at block mode role [] (x ∷ gs) k g a inside is = absurd a
@@ -41,7 +41,7 @@ word_at block mode role (w ∷ ws) (x ∷ gs) (suc k) g a inside is =
     let more = word_at block mode role ws gs k g a.1 (omega arith) is in
     (more.0, inr more.1, more.2)
 
-group_of : (block : PbType) (mode : Mode) (role : Role) (words : List (List ℕ)) (groups : List PinGroup) (word : List ℕ) → AreNamed block mode role words groups →
+group_of : (block : PbType) (mode : Mode) (role : EdgeEnd) (words : List (List ℕ)) (groups : List PinGroup) (word : List ℕ) → AreNamed block mode role words groups →
     Has words word → (k : ℕ) × (g : PinGroup) × (k < length groups) × (get_or groups k g ≡ g) × Names block mode role word (pins_of g)
 group_of block mode role [] [] word a h = absurd h
 group_of block mode role [] (x ∷ gs) word a h = absurd a
@@ -53,13 +53,13 @@ group_of block mode role (w ∷ ws) (x ∷ gs) word a (inr h) =
     let inside = more.2 in
     (suc more.0, more.1, omega arith, more.3, more.4)
 
-many_named : (block : PbType) (mode : Mode) (role : Role) (text : List ℕ) (groups : List PinGroup) → ReadsGroups block mode role text groups → AnyWide groups →
+many_named : (block : PbType) (mode : Mode) (role : EdgeEnd) (text : List ℕ) (groups : List PinGroup) → ReadsGroups block mode role text groups → AnyWide groups →
     NamesManyPins block mode role text
 many_named block mode role text groups r (k, g, inside, is, wide) =
     let at = word_at block mode role r.words groups k g r.named inside is in
     record { word = at.0; here = record { words = r.words; are_words = r.are_words; among = at.1 }; pins = pins_of g; names = at.2; many = wide }
 
-wide_group : (block : PbType) (mode : Mode) (role : Role) (text : List ℕ) (groups : List PinGroup) → ReadsGroups block mode role text groups →
+wide_group : (block : PbType) (mode : Mode) (role : EdgeEnd) (text : List ℕ) (groups : List PinGroup) → ReadsGroups block mode role text groups →
     NamesManyPins block mode role text → AnyWide groups
 wide_group block mode role text groups r m =
     let same = words_one m.here.words r.words (without_braces text) m.here.are_words r.are_words in
@@ -162,19 +162,19 @@ one_more_faultless block mode i here at is so_far n inter less there =
       | inr same ↦ let one : here ≡ inter = cc in subst (IsFaultless block mode) one is
     ]
 
-pub all_faultless : (block : PbType) (mode : Mode) (i : ℕ) → length (inters_of mode) ≤ i → AreFaultless block mode i → IsSound block mode
+pub all_faultless : (block : PbType) (mode : Mode) (i : ℕ) → length (inters_of mode) ≤ i → AreFaultless block mode i → IsSoundMode block mode
 all_faultless block mode i end so_far n inter there =
     let inside = slice_get_within (inters_of mode) n inter there in
     so_far n inter (omega arith) there
 
-named_among : (block : PbType) (mode : Mode) (role : Role) (words : List (List ℕ)) (pins : List LocalPin) (word : List ℕ) → NamesAll block mode role words pins →
+named_among : (block : PbType) (mode : Mode) (role : EdgeEnd) (words : List (List ℕ)) (pins : List LocalPin) (word : List ℕ) → NamesAll block mode role words pins →
     Has words word → (ps : List LocalPin) × Names block mode role word ps
 named_among block mode role [] pins word a h = absurd h
 named_among block mode role (w ∷ ws) pins word a (inl is) = (a.0, subst (λ (t : List ℕ). Names block mode role t a.0) (sym is) a.2)
 named_among block mode role (w ∷ ws) pins word a (inr h) = named_among block mode role ws a.1 word a.3 h
 
 -- where all words name pins, none names none
-pub none_unnamed : (block : PbType) (mode : Mode) (role : Role) (text input : List ℕ) (pins : List LocalPin) → text ≡ input → ReadsPins block mode role input pins →
+pub none_unnamed : (block : PbType) (mode : Mode) (role : EdgeEnd) (text input : List ℕ) (pins : List LocalPin) → text ≡ input → ReadsPins block mode role input pins →
     NamesNoPin block mode role text → ⊥
 none_unnamed block mode role text input pins same reads no_pin =
     let here = no_pin.here in
@@ -184,7 +184,7 @@ none_unnamed block mode role text input pins same reads no_pin =
     no_pin.none named.0 named.1
 
 -- a mode that is sound has no fault to tell
-pub sound_tells_none : (block : PbType) (mode : Mode) (e : EdgeError) → IsSound block mode → IsFirstFault block mode e → ⊥
+pub sound_tells_none : (block : PbType) (mode : Mode) (e : EdgeError) → IsSoundMode block mode → IsFirstFault block mode e → ⊥
 sound_tells_none block mode e sound f = fault_free block mode f.inter e (sound f.place f.inter f.is) f.fault
   where
     fault_free : (block : PbType) (mode : Mode) (inter : Inter) (e : EdgeError) → IsFaultless block mode inter → IsFault block mode inter e → ⊥
@@ -203,17 +203,17 @@ sound_tells_none block mode e sound f = fault_free block mode f.inter e (sound f
     fault_free block mode inter OutOfMemory ok f = f
 
 -- where a word names no pin, the text names none
-pub reads_none : (block : PbType) (mode : Mode) (role : Role) (text : List ℕ) → NamesNoPin block mode role text → ReadsNoPins block mode role text
+pub reads_none : (block : PbType) (mode : Mode) (role : EdgeEnd) (text : List ℕ) → NamesNoPin block mode role text → ReadsNoPins block mode role text
 reads_none block mode role text none pins reads = none_unnamed block mode role text text pins refl reads none
 
 -- the pins of the groups are those of the text
-pub reads_items : (block : PbType) (mode : Mode) (role : Role) (text : List ℕ) (groups lent : List PinGroup) (pins : List LocalPin) → ReadsGroups block mode role text groups →
+pub reads_items : (block : PbType) (mode : Mode) (role : EdgeEnd) (text : List ℕ) (groups lent : List PinGroup) (pins : List LocalPin) → ReadsGroups block mode role text groups →
     lent ≡ groups → pins ≡ flat_map pins_of lent → ReadsPins block mode role text pins
 reads_items block mode role text groups lent pins reads same are =
     subst (ReadsPins block mode role text) (sym (are ∙ ap (flat_map pins_of) same)) (groups_pins block mode role text groups reads)
 
 -- where they are one pin, the text names that
-pub reads_pin : (block : PbType) (mode : Mode) (role : Role) (text : List ℕ) (groups lent : List PinGroup) (found : Option LocalPin) → ReadsGroups block mode role text groups →
+pub reads_pin : (block : PbType) (mode : Mode) (role : EdgeEnd) (text : List ℕ) (groups lent : List PinGroup) (found : Option LocalPin) → ReadsGroups block mode role text groups →
     lent ≡ groups → MatchOption found ((pin : LocalPin) → flat_map pins_of lent ≡ pin ∷ [] → ⊥) (λ pin. flat_map pins_of lent ≡ pin ∷ []) →
     MatchOption found ((pin : LocalPin) → ReadsPin block mode role text pin → ⊥) (ReadsPin block mode role text)
 reads_pin block mode role text groups lent None reads same none = λ pin one.

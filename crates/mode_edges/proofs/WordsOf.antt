@@ -5,7 +5,7 @@ use Rattle.std.proofs.Common.{Bor, map}
 use Rattle.std.proofs.lemmas.List.{map-append}
 use Rattle.std.proofs.lemmas.Bool.Decides.{nat_tests}
 use Rattle.std.proofs.lemmas.List.Elements.{All-append, All-nil}
-use Rattle.vtr_base.specs.Spans.{is_white, is_dark, Stops, IsSpan, AreWords}
+use Rattle.vtr_base.specs.Spans.{is_white, is_word_byte, Stops, IsSpan, AreWords}
 
 -- what is left of a text: its words complete those that were found
 pub record IsLeft (text rest : List ℕ) (found : List (List ℕ)) : Type 0 where
@@ -27,24 +27,24 @@ words_behind text gap rest s (word ∷ words) are =
 pub left_starts : (text gap rest : List ℕ) → IsSpan is_white text gap rest → IsLeft text rest []
 left_starts text gap rest s = record { completes = words_behind text gap rest s; stops = s.stops }
 
-some_word : (rest word behind : List ℕ) → (length rest ≡ 0 → ⊥) → Stops is_white rest → IsSpan is_dark rest word behind → 0 < length word
+some_word : (rest word behind : List ℕ) → (length rest ≡ 0 → ⊥) → Stops is_white rest → IsSpan is_word_byte rest word behind → 0 < length word
 some_word [] word behind some stops s = absurd (some refl)
 some_word (r ∷ rs) [] behind some stops s =
-    let dark_stops : not (is_white r) ≡ false = subst (Stops is_dark) (sym s.spelled) s.stops in
-    absurd (dark (is_white r) stops dark_stops)
+    let dark_stops : not (is_white r) ≡ false = subst (Stops is_word_byte) (sym s.spelled) s.stops in
+    absurd (word_and_rest (is_white r) stops dark_stops)
   where
-    dark : (v : Bool) → v ≡ false → not v ≡ false → ⊥
-    dark v a b = cc
+    word_and_rest : (v : Bool) → v ≡ false → not v ≡ false → ⊥
+    word_and_rest v a b = cc
 some_word (r ∷ rs) (w ∷ ws) behind some stops s = omega arith
 
-pub left_shrinks : (rest word behind gap after : List ℕ) → (length rest ≡ 0 → ⊥) → Stops is_white rest → IsSpan is_dark rest word behind →
+pub left_shrinks : (rest word behind gap after : List ℕ) → (length rest ≡ 0 → ⊥) → Stops is_white rest → IsSpan is_word_byte rest word behind →
     IsSpan is_white behind gap after → length after < length rest
 left_shrinks rest word behind gap after some stops s g =
     let positive = some_word rest word behind some stops s in
     omega (arith, ap length s.spelled, ap length g.spelled, length-append word behind, length-append gap after)
 
 pub left_goes_on : (text rest word behind gap after : List ℕ) (found : List (List ℕ)) → (length rest ≡ 0 → ⊥) → IsLeft text rest found →
-    IsSpan is_dark rest word behind → IsSpan is_white behind gap after → IsLeft text after (found ++ word ∷ [])
+    IsSpan is_word_byte rest word behind → IsSpan is_white behind gap after → IsLeft text after (found ++ word ∷ [])
 left_goes_on text rest word behind gap after found some left s g = record {
   completes = λ more are.
       let here : IsSpan is_white rest [] rest = record { spelled = refl; all = All-nil (λ b. is_white b ≡ true); stops = left.stops } in

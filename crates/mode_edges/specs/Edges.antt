@@ -9,7 +9,7 @@ use Rattle.arch_types.specs.declared.block.InterKind.{InterKind}
 use Rattle.arch_types.specs.declared.block.InterKind.TheVariants.{Direct, Complete, Mux}
 use Rattle.arch_types.specs.Tree.{inters_of}
 use Rattle.mode_edges.specs.PinWords.{ReadsPins}
-use Rattle.mode_edges.specs.declared.pin.Role.TheVariants.{Source, End}
+use Rattle.mode_edges.specs.declared.pin.EdgeEnd.TheVariants.{Source, End}
 use Rattle.mode_edges.specs.declared.pin.LocalPin.{LocalPin}
 use Rattle.mode_edges.specs.declared.pin.LocalEdge.{LocalEdge}
 

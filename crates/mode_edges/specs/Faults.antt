@@ -11,8 +11,8 @@ use Rattle.arch_types.specs.Tree.{inters_of}
 use Rattle.mode_edges.specs.PinWords.{without_braces, Names, ReadsPins}
 use Rattle.mode_edges.specs.declared.faults.EdgeError.{EdgeError}
 use Rattle.mode_edges.specs.declared.faults.EdgeError.TheVariants.{NoSuchPin, Width, WideMux, OutOfMemory}
-use Rattle.mode_edges.specs.declared.pin.Role.{Role}
-use Rattle.mode_edges.specs.declared.pin.Role.TheVariants.{Source, End}
+use Rattle.mode_edges.specs.declared.pin.EdgeEnd.{EdgeEnd}
+use Rattle.mode_edges.specs.declared.pin.EdgeEnd.TheVariants.{Source, End}
 use Rattle.mode_edges.specs.declared.pin.LocalPin.{LocalPin}
 
 -- the word is one of the words of the text
@@ -22,13 +22,13 @@ pub record HasWord (text word : List ℕ) : Type 0 where
   pub among : Has words word
 
 -- a word of the text names no pin, or a pin on the wrong side
-pub record NamesNoPin (block : PbType) (mode : Mode) (role : Role) (text : List ℕ) : Type 0 where
+pub record NamesNoPin (block : PbType) (mode : Mode) (role : EdgeEnd) (text : List ℕ) : Type 0 where
   pub word : List ℕ
   pub here : HasWord text word
   pub none : (pins : List LocalPin) → Names block mode role word pins → ⊥
 
 -- a word of the text names more than one pin
-pub record NamesManyPins (block : PbType) (mode : Mode) (role : Role) (text : List ℕ) : Type 0 where
+pub record NamesManyPins (block : PbType) (mode : Mode) (role : EdgeEnd) (text : List ℕ) : Type 0 where
   pub word : List ℕ
   pub here : HasWord text word
   pub pins : List LocalPin
@@ -69,8 +69,8 @@ pub record IsFaultless (block : PbType) (mode : Mode) (inter : Inter) : Type 0 w
   pub narrow : inter.kind ≡ Mux → (NamesManyPins block mode Source inter.input → ⊥) × (length outs ≡ 1)
 
 -- every interconnect of the mode names pins rightly
-abbrev pub IsSound : PbType → Mode → Type 0
-IsSound block mode = (n : ℕ) (inter : Inter) → slice_get (inters_of mode) n ≡ Some inter → IsFaultless block mode inter
+abbrev pub IsSoundMode : PbType → Mode → Type 0
+IsSoundMode block mode = (n : ℕ) (inter : Inter) → slice_get (inters_of mode) n ≡ Some inter → IsFaultless block mode inter
 
 -- the error tells the interconnect's fault, by its name. Where a word names no pin, neither of the
 -- other two holds, so that an interconnect has one fault

@@ -12,8 +12,8 @@ use Rattle.arch_types.specs.declared.block.Side.{Side}
 use Rattle.arch_types.specs.declared.block.Side.TheVariants.{Input, Output, Clock}
 use Rattle.arch_types.specs.Tree.{kids_of}
 use Rattle.mode_edges.specs.declared.word.Ends.{Ends}
-use Rattle.mode_edges.specs.declared.pin.Role.{Role}
-use Rattle.mode_edges.specs.declared.pin.Role.TheVariants.{Source, End}
+use Rattle.mode_edges.specs.declared.pin.EdgeEnd.{EdgeEnd}
+use Rattle.mode_edges.specs.declared.pin.EdgeEnd.TheVariants.{Source, End}
 use Rattle.mode_edges.specs.declared.pin.LocalPin.{LocalPin}
 
 -- what stands in brackets: nothing, or a range
@@ -66,7 +66,7 @@ AreMembers None count members = members ≡ up_from 0 count
 AreMembers (Some r) count members = (r.high < count) × (members ≡ up_from r.low ((r.high + 1) - r.low))
 
 -- a port of the block itself: a source is an input or a clock, an end is an output
-abbrev pub IsOwnSide : Role → Side → Type 0
+abbrev pub IsOwnSide : EdgeEnd → Side → Type 0
 IsOwnSide Source Input = Unit {0}
 IsOwnSide Source Clock = Unit {0}
 IsOwnSide Source Output = ⊥
@@ -74,7 +74,7 @@ IsOwnSide End Output = Unit {0}
 IsOwnSide End _ = ⊥
 
 -- a port of a child: a source is an output, an end is an input or a clock
-abbrev pub IsChildSide : Role → Side → Type 0
+abbrev pub IsChildSide : EdgeEnd → Side → Type 0
 IsChildSide Source Output = Unit {0}
 IsChildSide Source _ = ⊥
 IsChildSide End Input = Unit {0}
@@ -101,7 +101,7 @@ child_pin child instance port bit =
     record { owner = Some (record { child = child; instance = instance }); port = port; bit = bit }
 
 -- the word names pins of the block itself
-pub record NamesOwn (block : PbType) (role : Role) (w : Word) (pins : List LocalPin) : Type 0 where
+pub record NamesOwn (block : PbType) (role : EdgeEnd) (w : Word) (pins : List LocalPin) : Type 0 where
   pub head : IsOwnHead block.name w.head
   pub port : ℕ
   pub bits : List ℕ
@@ -109,7 +109,7 @@ pub record NamesOwn (block : PbType) (role : Role) (w : Word) (pins : List Local
   pub are : pins ≡ map (own_pin port) bits
 
 -- the word names pins of instances of a child: instance by instance, and of each the bits
-pub record NamesChild (block : PbType) (mode : Mode) (role : Role) (w : Word) (pins : List LocalPin) : Type 0 where
+pub record NamesChild (block : PbType) (mode : Mode) (role : EdgeEnd) (w : Word) (pins : List LocalPin) : Type 0 where
   pub other : IsOwnHead block.name w.head → ⊥
   pub name : List ℕ
   pub index : Index
@@ -126,13 +126,13 @@ pub record NamesChild (block : PbType) (mode : Mode) (role : Role) (w : Word) (p
   pub are : pins ≡ flat_map (λ instance. map (child_pin child instance port) bits) instances
 
 -- the pins that one word names
-pub record Names (block : PbType) (mode : Mode) (role : Role) (text : List ℕ) (pins : List LocalPin) : Type 0 where
+pub record Names (block : PbType) (mode : Mode) (role : EdgeEnd) (text : List ℕ) (pins : List LocalPin) : Type 0 where
   pub word : Word
   pub is : IsWord text word
   pub named : NamesOwn block role word pins ⊎ NamesChild block mode role word pins
 
 -- the pins that a list of words names, word by word
-abbrev pub NamesAll : PbType → Mode → Role → List (List ℕ) → List LocalPin → Type 0
+abbrev pub NamesAll : PbType → Mode → EdgeEnd → List (List ℕ) → List LocalPin → Type 0
 NamesAll block mode role [] pins = pins ≡ []
 NamesAll block mode role (text ∷ texts) pins =
     (first rest : List LocalPin) × Names block mode role text first × NamesAll block mode role texts rest × (pins ≡ first ++ rest)
@@ -142,19 +142,19 @@ abbrev pub without_braces : List ℕ → List ℕ
 without_braces text = filter (λ b. not ((b == 123) || (b == 125))) text
 
 -- the pins that the `input` or the `output` of an interconnect names
-pub record ReadsPins (block : PbType) (mode : Mode) (role : Role) (text : List ℕ) (pins : List LocalPin) : Type 0 where
+pub record ReadsPins (block : PbType) (mode : Mode) (role : EdgeEnd) (text : List ℕ) (pins : List LocalPin) : Type 0 where
   pub words : List (List ℕ)
   pub are_words : AreWords (without_braces text) words
   pub names : NamesAll block mode role words pins
 
 -- a text names one list of pins at most
 abbrev pub HasOneReading : Type 0
-HasOneReading = (block : PbType) (mode : Mode) (role : Role) (text : List ℕ) (ps qs : List LocalPin) → ReadsPins block mode role text ps → ReadsPins block mode role text qs → ps ≡ qs
+HasOneReading = (block : PbType) (mode : Mode) (role : EdgeEnd) (text : List ℕ) (ps qs : List LocalPin) → ReadsPins block mode role text ps → ReadsPins block mode role text qs → ps ≡ qs
 
 -- the text names no list of pins: one of its words names none, or pins on the wrong side
-abbrev pub ReadsNoPins : PbType → Mode → Role → List ℕ → Type 0
+abbrev pub ReadsNoPins : PbType → Mode → EdgeEnd → List ℕ → Type 0
 ReadsNoPins block mode role text = (pins : List LocalPin) → ReadsPins block mode role text pins → ⊥
 
 -- the text names this pin and no other
-abbrev pub ReadsPin : PbType → Mode → Role → List ℕ → LocalPin → Type 0
+abbrev pub ReadsPin : PbType → Mode → EdgeEnd → List ℕ → LocalPin → Type 0
 ReadsPin block mode role text pin = ReadsPins block mode role text (pin ∷ [])

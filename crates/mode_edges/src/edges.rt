@@ -1,7 +1,7 @@
 ghost use Rattle.std.specs.Prelude.{◌≡◌, ◌≤◌, ◌<◌, Some, length, slice_get, IfOk, MatchOption};
 ghost use Rattle.arch_types.specs.Tree.{inters_of};
 ghost use Rattle.mode_edges.specs.Edges.{AreEdges, HasMoreEdges};
-ghost use Rattle.mode_edges.specs.Faults.{IsFaultless, IsSound};
+ghost use Rattle.mode_edges.specs.Faults.{IsFaultless, IsSoundMode};
 ghost use Rattle.mode_edges.specs.Pairs.{edges_in};
 ghost use Rattle.mode_edges.specs.Gathered.{AddsInter};
 
@@ -9,18 +9,20 @@ use crate::found::add_edges;
 use crate::groups::groups;
 use crate::index::place_number;
 use crate::names::ModeNames;
-use crate::pin::{LocalEdge, Pair, Role};
+use crate::pin::{EdgeEnd, LocalEdge, Pair};
 use arch_types::Inter;
 use indexmap::IndexMap;
 use std::alloc::{AllocError, Global};
 
 impl<'n, 'a> ModeNames<'n, 'a> {
-    /// The edges of the mode: the pairs of pins that its interconnects give, each owned by the first
-    /// interconnect that gives it (VTR architecture reference, "Interconnect"). `None` where there
-    /// are more than `most`, which is known before many more are made.
+    /// The edges of the mode: the pairs of pins that its interconnects give, each owned by the
+    /// first interconnect that gives it (VTR architecture reference, "Interconnect"). `None` where
+    /// there are more than `most`, which is known before many more are made.
     pub fn edges(&self, alloc: Global, most: usize) -> Result<Option<Vec<LocalEdge>>, AllocError>
-        requires { IsSound self.now.block self.now.mode }
-        ensures { IfOk result (λ r. MatchOption r (HasMoreEdges self.now.block self.now.mode most) (λ edges. AreEdges self.now.block self.now.mode edges.items × (length edges.items ≤ most))) }
+        requires { IsSoundMode self.now.block self.now.mode }
+        ensures { IfOk result (λ r. MatchOption r (HasMoreEdges self.now.block self.now.mode most)
+            (λ edges. AreEdges self.now.block self.now.mode edges.items
+            × (length edges.items ≤ most))) }
     {
         let mut found = IndexMap::new(alloc);
         for (place, inter) in self.mode().inters.as_slice().iter().enumerate() {
@@ -44,12 +46,13 @@ fn add_inter(
     most: usize,
 ) -> Result<bool, AllocError>
     requires { IsFaultless names.now.block names.now.mode inter.now }
-    ensures { IfOk result (λ all. AddsInter names.now.block names.now.mode inter.now number most (edges_in found.old) (edges_in found.new) all) }
+    ensures { IfOk result (λ all. AddsInter names.now.block names.now.mode inter.now number most
+        (edges_in found.old) (edges_in found.new) all) }
 {
-    let Some(ins) = groups(alloc, names, Role::Source, inter.input.as_bytes())? else {
+    let Some(ins) = groups(alloc, names, EdgeEnd::Source, inter.input.as_bytes())? else {
         unreachable!()
     };
-    let Some(outs) = groups(alloc, names, Role::End, inter.output.as_bytes())? else {
+    let Some(outs) = groups(alloc, names, EdgeEnd::End, inter.output.as_bytes())? else {
         unreachable!()
     };
     Ok(add_edges(

@@ -1,12 +1,12 @@
 ghost use Rattle.std.specs.Prelude.{◌≡◌, ◌≢◌, ◌<◌, ◌⊎◌, ◌↔◌, length, IsTrue, Any, MatchResult};
 ghost use Rattle.std.specs.List.{flat_map};
-ghost use Rattle.mode_edges.specs.Faults.{IsFaultless, TellsFault, IsSound, TellsFirst};
+ghost use Rattle.mode_edges.specs.Faults.{IsFaultless, TellsFault, IsSoundMode, TellsFirst};
 ghost use Rattle.mode_edges.specs.Readers.{pins_of};
 ghost use Rattle.mode_edges.specs.declared.faults.EdgeError.TheVariants.{OutOfMemory};
 
 use crate::groups::{groups, has_wide, pin_count};
 use crate::names::{ModeNames, PinGroup};
-use crate::pin::Role;
+use crate::pin::EdgeEnd;
 use arch_types::{Inter, InterKind};
 use std::alloc::{AllocError, Global};
 use thiserror::Error;
@@ -41,7 +41,8 @@ impl<'n, 'a> ModeNames<'n, 'a> {
     /// Whether every interconnect of the mode names pins rightly. It counts pins and lists none, so
     /// that it is quick at words that name very many.
     pub fn check(&self, alloc: Global) -> Result<(), EdgeError>
-        ensures { MatchResult result (λ _. IsSound self.now.block self.now.mode) (λ e. TellsFirst self.now.block self.now.mode e) }
+        ensures { MatchResult result (λ _. IsSoundMode self.now.block self.now.mode)
+            (λ e. TellsFirst self.now.block self.now.mode e) }
     {
         for inter in self.mode().inters.as_slice() {
             check_inter(alloc, self, inter)?;
@@ -52,14 +53,15 @@ impl<'n, 'a> ModeNames<'n, 'a> {
 
 /// Whether an interconnect names pins rightly.
 fn check_inter(alloc: Global, names: &ModeNames<'_, '_>, inter: &Inter) -> Result<(), EdgeError>
-    ensures { MatchResult result (λ _. IsFaultless names.now.block names.now.mode inter.now) (λ e. TellsFault names.now.block names.now.mode inter.now e) }
+    ensures { MatchResult result (λ _. IsFaultless names.now.block names.now.mode inter.now)
+        (λ e. TellsFault names.now.block names.now.mode inter.now e) }
 {
-    let Some(ins) = groups(alloc, names, Role::Source, inter.input.as_bytes())? else {
+    let Some(ins) = groups(alloc, names, EdgeEnd::Source, inter.input.as_bytes())? else {
         return Err(EdgeError::NoSuchPin {
             inter: inter.name.copy(alloc)?,
         });
     };
-    let Some(outs) = groups(alloc, names, Role::End, inter.output.as_bytes())? else {
+    let Some(outs) = groups(alloc, names, EdgeEnd::End, inter.output.as_bytes())? else {
         return Err(EdgeError::NoSuchPin {
             inter: inter.name.copy(alloc)?,
         });
@@ -79,14 +81,16 @@ fn check_inter(alloc: Global, names: &ModeNames<'_, '_>, inter: &Inter) -> Resul
 
 /// Whether the lists of a `direct` have two lengths.
 fn has_two_widths(kind: InterKind, ins: &[PinGroup], outs: &[PinGroup]) -> bool
-    ensures { IsTrue result ↔ ((kind ≡ InterKind.Direct) × (length (flat_map pins_of ins.now) ≢ length (flat_map pins_of outs.now))) }
+    ensures { IsTrue result ↔ ((kind ≡ InterKind.Direct)
+        × (length (flat_map pins_of ins.now) ≢ length (flat_map pins_of outs.now))) }
 {
     kind == InterKind::Direct && pin_count(ins) != pin_count(outs)
 }
 
 /// Whether a `mux` has a wide input word, or an output that isn't one pin.
 fn is_wide_mux(kind: InterKind, ins: &[PinGroup], outs: &[PinGroup]) -> bool
-    ensures { IsTrue result ↔ ((kind ≡ InterKind.Mux) × (Any (λ g. 1 < length (pins_of g)) ins.now ⊎ (length (flat_map pins_of outs.now) ≢ 1))) }
+    ensures { IsTrue result ↔ ((kind ≡ InterKind.Mux)
+        × (Any (λ g. 1 < length (pins_of g)) ins.now ⊎ (length (flat_map pins_of outs.now) ≢ 1))) }
 {
     kind == InterKind::Mux && (has_wide(ins) || pin_count(outs) != 1)
 }

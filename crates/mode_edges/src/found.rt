@@ -23,7 +23,8 @@ pub(crate) fn add_edges(
     inter: u32,
     most: usize,
 ) -> Result<bool, AllocError>
-    ensures { IfOk result (λ all. AddsUpTo most (edges_in found.old) (edges_in found.new) (given_by kind inter (flat_map pins_of ins.now) (flat_map pins_of outs.now)) all) }
+    ensures { IfOk result (λ all. AddsUpTo most (edges_in found.old) (edges_in found.new)
+        (given_by kind inter (flat_map pins_of ins.now) (flat_map pins_of outs.now)) all) }
 {
     let ins = PinWalk::new(ins);
     let outs = PinWalk::new(outs);
@@ -43,7 +44,8 @@ fn add_direct(
     inter: u32,
     most: usize,
 ) -> Result<bool, AllocError>
-    ensures { IfOk result (λ all. AddsUpTo most (edges_in found.old) (edges_in found.new) (side_by_side inter (pins_left ins.entry) (pins_left outs.entry)) all) }
+    ensures { IfOk result (λ all. AddsUpTo most (edges_in found.old) (edges_in found.new)
+        (side_by_side inter (pins_left ins.entry) (pins_left outs.entry)) all) }
 {
     let mut sources = ins;
     let mut ends = outs;
@@ -67,7 +69,8 @@ fn add_complete(
     inter: u32,
     most: usize,
 ) -> Result<bool, AllocError>
-    ensures { IfOk result (λ all. AddsUpTo most (edges_in found.old) (edges_in found.new) (rows inter (pins_left ins.entry) (pins_left outs.entry)) all) }
+    ensures { IfOk result (λ all. AddsUpTo most (edges_in found.old) (edges_in found.new)
+        (rows inter (pins_left ins.entry) (pins_left outs.entry)) all) }
 {
     let mut sources = ins;
     let Some(first) = sources.next_pin() else {
@@ -92,7 +95,10 @@ fn add_first(
     inter: u32,
     most: usize,
 ) -> Result<Option<IndexSet<LocalPin>>, AllocError>
-    ensures { IfOk result (λ r. MatchOption r (most < length (with_edges (edges_in found.old) (row inter src (pins_left outs.entry)))) (λ ends. SameEnds ends.keys (pins_left outs.entry) × AddsUpTo most (edges_in found.old) (edges_in found.new) (row inter src (pins_left outs.entry)) true)) }
+    ensures { IfOk result (λ r. MatchOption r (most < length
+        (with_edges (edges_in found.old) (row inter src (pins_left outs.entry))))
+        (λ ends. SameEnds ends.keys (pins_left outs.entry) × AddsUpTo most (edges_in found.old)
+        (edges_in found.new) (row inter src (pins_left outs.entry)) true)) }
 {
     let mut walk = outs;
     let mut ends = IndexSet::new(alloc);
@@ -116,7 +122,8 @@ fn add_others(
     most: usize,
 ) -> Result<bool, AllocError>
     requires { with_edges (edges_in found.old) (row inter first ends.now) ≡ edges_in found.old }
-    ensures { IfOk result (λ all. AddsUpTo most (edges_in found.old) (edges_in found.new) (rows inter (pins_left ins.entry) ends.now) all) }
+    ensures { IfOk result (λ all. AddsUpTo most (edges_in found.old) (edges_in found.new)
+        (rows inter (pins_left ins.entry) ends.now) all) }
 {
     let mut sources = ins;
     let mut seen = IndexSet::new(alloc);
@@ -137,7 +144,8 @@ fn add_row(
     inter: u32,
     most: usize,
 ) -> Result<bool, AllocError>
-    ensures { IfOk result (λ all. AddsUpTo most (edges_in found.old) (edges_in found.new) (row inter src ends.now) all) }
+    ensures { IfOk result (λ all. AddsUpTo most (edges_in found.old) (edges_in found.new)
+        (row inter src ends.now) all) }
 {
     for dst in ends {
         if !add_pair(found, Pair { src, dst: *dst }, inter, most)? {
@@ -154,7 +162,8 @@ fn add_pair(
     inter: u32,
     most: usize,
 ) -> Result<bool, AllocError>
-    ensures added { OnOk result (edges_in found.new ≡ with_edge (edges_in found.old) (edge_of pair inter)) }
+    ensures added { OnOk result (edges_in found.new ≡ with_edge (edges_in found.old)
+        (edge_of pair inter)) }
     ensures few { IfOk result (λ few. IsTrue few ↔ (length (edges_in found.new) ≤ most)) }
 {
     add_new(found, pair, inter)?;
@@ -163,7 +172,8 @@ fn add_pair(
 
 /// Adds one edge, unless its pins are joined already.
 fn add_new(found: &mut IndexMap<Pair, u32>, pair: Pair, inter: u32) -> Result<(), AllocError>
-    ensures { OnOk result (edges_in found.new ≡ with_edge (edges_in found.old) (edge_of pair inter)) }
+    ensures { OnOk result (edges_in found.new ≡ with_edge (edges_in found.old)
+        (edge_of pair inter)) }
 {
     if found.contains_key(&pair) {
         return Ok(());

@@ -5,20 +5,21 @@ ghost use Rattle.mode_edges.specs.Readers.{pins_of};
 ghost use Rattle.mode_edges.specs.Groups.{AreNamed, ReadsGroups, SomeUnnamed};
 
 use crate::names::{Members, ModeNames, PinGroup, named};
-use crate::pin::Role;
-use crate::split::{bare, words};
+use crate::pin::EdgeEnd;
+use crate::split::{drop_braces, words};
 use std::alloc::{AllocError, Global};
 
 /// What each word of a list of pin words names, where each names pins on the right side.
 pub(crate) fn groups(
     alloc: Global,
     names: &ModeNames<'_, '_>,
-    role: Role,
+    role: EdgeEnd,
     text: &[u8],
 ) -> Result<Option<Vec<PinGroup>>, AllocError>
-    ensures { IfOk result (λ r. MatchOption r (NamesNoPin names.now.block names.now.mode role text.now) (λ v. ReadsGroups names.now.block names.now.mode role text.now v.items)) }
+    ensures { IfOk result (λ r. MatchOption r (NamesNoPin names.now.block names.now.mode role
+        text.now) (λ v. ReadsGroups names.now.block names.now.mode role text.now v.items)) }
 {
-    let plain = bare(alloc, text)?;
+    let plain = drop_braces(alloc, text)?;
     let words = words(alloc, plain.as_slice())?;
     let Some(found) = named_all(alloc, names, role, words.as_slice())? else {
         return Ok(None);
@@ -30,10 +31,12 @@ pub(crate) fn groups(
 fn named_all(
     alloc: Global,
     names: &ModeNames<'_, '_>,
-    role: Role,
+    role: EdgeEnd,
     words: &[&[u8]],
 ) -> Result<Option<Vec<PinGroup>>, AllocError>
-    ensures { IfOk result (λ r. MatchOption r (SomeUnnamed names.now.block names.now.mode role (map (λ w. w.now) words.now)) (λ v. AreNamed names.now.block names.now.mode role (map (λ w. w.now) words.now) v.items)) }
+    ensures { IfOk result (λ r. MatchOption r (SomeUnnamed names.now.block names.now.mode role
+        (map (λ w. w.now) words.now)) (λ v. AreNamed names.now.block names.now.mode role
+        (map (λ w. w.now) words.now) v.items)) }
 {
     let mut found = Vec::new(alloc);
     for text in words {

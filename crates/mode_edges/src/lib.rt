@@ -18,4 +18,4 @@ mod word;
 pub use faults::EdgeError;
 pub use laws::{one_list, one_reading};
 pub use names::{ModeNames, PortNames};
-pub use pin::{ChildAt, LocalEdge, LocalPin, Role};
+pub use pin::{ChildAt, EdgeEnd, LocalEdge, LocalPin};

@@ -7,7 +7,7 @@ ghost use Rattle.mode_edges.specs.Scopes.{places_in, IsIndex};
 ghost use Rattle.mode_edges.specs.declared.pin.LocalPin.{LocalPin};
 
 use crate::index::{NameIndex, find_name, index_kids, index_ports};
-use crate::pin::Role;
+use crate::pin::EdgeEnd;
 use crate::word::{Ends, PinWord, part, word};
 use arch_types::{Mode, PbType, Port, Side};
 use std::alloc::{AllocError, Global};
@@ -123,7 +123,8 @@ impl<'n, 'a> Model for ModeNames<'n, 'a> {
 
     ghost view = { λ n. record { block = n.own.now; mode = n.mode.now } };
 
-    ghost invariant = { λ n. IsIndex (map (λ kid. kid.name) (kids_of n.mode.now)) (places_in n.kids) × (n.kid_ports.items ≡ kids_of n.mode.now) };
+    ghost invariant = { λ n. IsIndex (map (λ kid. kid.name) (kids_of n.mode.now)) (places_in n.kids)
+        × (n.kid_ports.items ≡ kids_of n.mode.now) };
 }
 
 impl<'n, 'a> ModeNames<'n, 'a> {
@@ -169,7 +170,10 @@ impl<'n, 'a> ModeNames<'n, 'a> {
 
     /// The first child of that name with its ports, and its place.
     fn find_kid(&self, name: &[u8]) -> Option<(u32, &PortNames<'a>)>
-        ensures { MatchOption result ((place : ℕ) → IsFirstPlace (map (λ kid. kid.name) (kids_of self.now.mode)) name.now place → ⊥) (λ found. IsFirstPlace (map (λ kid. kid.name) (kids_of self.now.mode)) name.now found.0 × (slice_get (kids_of self.now.mode) found.0 ≡ Some found.1.now)) }
+        ensures { MatchOption result ((place : ℕ) → IsFirstPlace
+            (map (λ kid. kid.name) (kids_of self.now.mode)) name.now place → ⊥)
+            (λ found. IsFirstPlace (map (λ kid. kid.name) (kids_of self.now.mode)) name.now found.0
+            × (slice_get (kids_of self.now.mode) found.0 ≡ Some found.1.now)) }
     {
         let place = find_name(&self.kids, name)?;
         Some((place, &self.kid_ports[place as usize]))
@@ -188,8 +192,10 @@ fn ports_of_all<'a>(alloc: Global, kids: &'a [PbType]) -> Result<Vec<PortNames<'
 }
 
 /// What a pin word names, where it names pins on the right side for the role.
-pub(crate) fn named(names: &ModeNames<'_, '_>, role: Role, text: &[u8]) -> Option<PinGroup>
-    ensures { MatchOption result ((pins : List LocalPin) → Names names.now.block names.now.mode role text.now pins → ⊥) (λ named. Names names.now.block names.now.mode role text.now (pins_of named)) }
+pub(crate) fn named(names: &ModeNames<'_, '_>, role: EdgeEnd, text: &[u8]) -> Option<PinGroup>
+    ensures { MatchOption result ((pins : List LocalPin) → Names names.now.block names.now.mode role
+        text.now pins → ⊥) (λ named. Names names.now.block names.now.mode role text.now
+        (pins_of named)) }
 {
     let Some(word) = word(text) else {
         return None;
@@ -202,9 +208,12 @@ pub(crate) fn named(names: &ModeNames<'_, '_>, role: Role, text: &[u8]) -> Optio
 }
 
 /// What a word names of the block itself, whose name it bears.
-fn named_own(names: &ModeNames<'_, '_>, role: Role, word: &PinWord<'_>) -> Option<PinGroup>
+fn named_own(names: &ModeNames<'_, '_>, role: EdgeEnd, word: &PinWord<'_>) -> Option<PinGroup>
     requires { IsOwnHead names.now.block.name word.now.head.now }
-    ensures { MatchOption result ((index : Index) (pins : List LocalPin) → Stands word.now.bits index → NamesOwn names.now.block role (word_with word.now index) pins → ⊥) (λ named. (index : Index) → Stands word.now.bits index → NamesOwn names.now.block role (word_with word.now index) (pins_of named)) }
+    ensures { MatchOption result ((index : Index) (pins : List LocalPin) → Stands word.now.bits
+        index → NamesOwn names.now.block role (word_with word.now index) pins → ⊥)
+        (λ named. (index : Index) → Stands word.now.bits index → NamesOwn names.now.block role
+        (word_with word.now index) (pins_of named)) }
 {
     let Some(found) = names.own_bits(word) else {
         return None;
@@ -219,9 +228,12 @@ fn named_own(names: &ModeNames<'_, '_>, role: Role, word: &PinWord<'_>) -> Optio
 }
 
 /// What a word names of a child, where it doesn't bear the name of the block itself.
-fn named_child(names: &ModeNames<'_, '_>, role: Role, word: &PinWord<'_>) -> Option<PinGroup>
+fn named_child(names: &ModeNames<'_, '_>, role: EdgeEnd, word: &PinWord<'_>) -> Option<PinGroup>
     requires { IsOwnHead names.now.block.name word.now.head.now → ⊥ }
-    ensures { MatchOption result ((index : Index) (pins : List LocalPin) → Stands word.now.bits index → NamesChild names.now.block names.now.mode role (word_with word.now index) pins → ⊥) (λ named. (index : Index) → Stands word.now.bits index → NamesChild names.now.block names.now.mode role (word_with word.now index) (pins_of named)) }
+    ensures { MatchOption result ((index : Index) (pins : List LocalPin) → Stands word.now.bits
+        index → NamesChild names.now.block names.now.mode role (word_with word.now index) pins → ⊥)
+        (λ named. (index : Index) → Stands word.now.bits index → NamesChild names.now.block
+        names.now.mode role (word_with word.now index) (pins_of named)) }
 {
     let Some((name, ends)) = part(word.head) else {
         return None;
@@ -264,7 +276,9 @@ fn port_bits(index: &NameIndex<'_>, ports: &[Port], word: &PinWord<'_>) -> Optio
 /// The first port of that name, and its place.
 fn find_port<'a>(index: &NameIndex<'_>, ports: &'a [Port], name: &[u8]) -> Option<(u32, &'a Port)>
     requires { IsIndex (map (λ p. p.name) ports.now) (places_in index.now) }
-    ensures { MatchOption result ((place : ℕ) → IsFirstPlace (map (λ p. p.name) ports.now) name.now place → ⊥) (λ found. IsFirstPlace (map (λ p. p.name) ports.now) name.now found.0 × (slice_get ports.now found.0 ≡ Some found.1.now)) }
+    ensures { MatchOption result ((place : ℕ) → IsFirstPlace (map (λ p. p.name) ports.now) name.now
+        place → ⊥) (λ found. IsFirstPlace (map (λ p. p.name) ports.now) name.now found.0
+        × (slice_get ports.now found.0 ≡ Some found.1.now)) }
 {
     let place = find_name(index, name)?;
     Some((place, &ports[place as usize]))
@@ -272,7 +286,9 @@ fn find_port<'a>(index: &NameIndex<'_>, ports: &'a [Port], name: &[u8]) -> Optio
 
 /// The members of `count` that an index names, where it names none outside.
 fn members_of(ends: Option<Ends>, count: u32) -> Option<Members>
-    ensures { MatchOption result ((index : Index) (ms : List ℕ) → Stands ends index → AreMembers index count ms → ⊥) (λ m. (index : Index) → Stands ends index → AreMembers index count (member_list m)) }
+    ensures { MatchOption result ((index : Index) (ms : List ℕ) → Stands ends index → AreMembers
+        index count ms → ⊥) (λ m. (index : Index) → Stands ends index → AreMembers index count
+        (member_list m)) }
 {
     match ends {
         None => Some(Members { low: 0, end: count }),
@@ -308,23 +324,23 @@ fn same_bytes(one: &[u8], other: &[u8]) -> bool
 }
 
 /// Whether a port of the block itself is on the right side for the role.
-fn is_own_side(role: Role, side: Side) -> bool
+fn is_own_side(role: EdgeEnd, side: Side) -> bool
     ensures { IsTrue result ↔ IsOwnSide role side }
 {
     match (role, side) {
-        (Role::Source, Side::Input | Side::Clock) => true,
-        (Role::End, Side::Output) => true,
+        (EdgeEnd::Source, Side::Input | Side::Clock) => true,
+        (EdgeEnd::End, Side::Output) => true,
         _ => false,
     }
 }
 
 /// Whether a port of a child is on the right side for the role.
-fn is_child_side(role: Role, side: Side) -> bool
+fn is_child_side(role: EdgeEnd, side: Side) -> bool
     ensures { IsTrue result ↔ IsChildSide role side }
 {
     match (role, side) {
-        (Role::Source, Side::Output) => true,
-        (Role::End, Side::Input | Side::Clock) => true,
+        (EdgeEnd::Source, Side::Output) => true,
+        (EdgeEnd::End, Side::Input | Side::Clock) => true,
         _ => false,
     }
 }

@@ -24,7 +24,7 @@ pub struct LocalEdge {
 
 /// Which end of an edge a list of pin words names.
 #[derive(Clone, Copy, Debug, PartialEq, Eq)]
-pub enum Role {
+pub enum EdgeEnd {
     Source,
     End,
 }

@@ -6,7 +6,7 @@ ghost use Rattle.mode_edges.specs.declared.pin.LocalPin.{LocalPin};
 
 use crate::groups::{groups, pin_count};
 use crate::names::{ModeNames, PinGroup};
-use crate::pin::{LocalPin, Role};
+use crate::pin::{EdgeEnd, LocalPin};
 use crate::walk::PinWalk;
 use std::alloc::{AllocError, Global};
 
@@ -17,10 +17,11 @@ impl<'n, 'a> ModeNames<'n, 'a> {
     pub fn read_pins(
         &self,
         alloc: Global,
-        role: Role,
+        role: EdgeEnd,
         text: &[u8],
     ) -> Result<Option<Vec<LocalPin>>, AllocError>
-        ensures { IfOk result (λ r. MatchOption r (ReadsNoPins self.now.block self.now.mode role text.now) (λ pins. ReadsPins self.now.block self.now.mode role text.now pins.items)) }
+        ensures { IfOk result (λ r. MatchOption r (ReadsNoPins self.now.block self.now.mode role
+            text.now) (λ pins. ReadsPins self.now.block self.now.mode role text.now pins.items)) }
     {
         let Some(found) = groups(alloc, self, role, text)? else {
             return Ok(None);
@@ -33,10 +34,12 @@ impl<'n, 'a> ModeNames<'n, 'a> {
     pub fn read_pin(
         &self,
         alloc: Global,
-        role: Role,
+        role: EdgeEnd,
         text: &[u8],
     ) -> Result<Option<LocalPin>, AllocError>
-        ensures { IfOk result (λ r. MatchOption r ((pin : LocalPin) → ReadsPin self.now.block self.now.mode role text.now pin → ⊥) (λ pin. ReadsPin self.now.block self.now.mode role text.now pin)) }
+        ensures { IfOk result (λ r. MatchOption r ((pin : LocalPin) → ReadsPin self.now.block
+            self.now.mode role text.now pin → ⊥) (λ pin. ReadsPin self.now.block self.now.mode role
+            text.now pin)) }
     {
         let Some(found) = groups(alloc, self, role, text)? else {
             return Ok(None);
@@ -59,7 +62,8 @@ fn list_pins(alloc: Global, groups: &[PinGroup]) -> Result<Vec<LocalPin>, AllocE
 
 /// The pin of groups that have one.
 fn only_pin(groups: &[PinGroup]) -> Option<LocalPin>
-    ensures { MatchOption result ((pin : LocalPin) → flat_map pins_of groups.now ≡ pin ∷ [] → ⊥) (λ pin. flat_map pins_of groups.now ≡ pin ∷ []) }
+    ensures { MatchOption result ((pin : LocalPin) → flat_map pins_of groups.now ≡ pin ∷ [] → ⊥)
+        (λ pin. flat_map pins_of groups.now ≡ pin ∷ []) }
 {
     if pin_count(groups) != 1 {
         return None;

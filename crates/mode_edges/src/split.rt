@@ -1,5 +1,5 @@
 ghost use Rattle.std.specs.Prelude.{◌≡◌, ◌↔◌, List, map, IsTrue, IfOk};
-ghost use Rattle.vtr_base.specs.Spans.{is_white, is_dark, IsSpan, AreWords};
+ghost use Rattle.vtr_base.specs.Spans.{is_white, is_word_byte, IsSpan, AreWords};
 ghost use Rattle.mode_edges.specs.PinWords.{without_braces};
 
 use std::alloc::{AllocError, Global};
@@ -11,7 +11,7 @@ pub(crate) fn words<'a>(alloc: Global, text: &'a [u8]) -> Result<Vec<&'a [u8]>, 
     let mut found = Vec::new(alloc);
     let (_gap, mut rest) = white(text);
     while !rest.is_empty() {
-        let (word, behind) = dark(rest);
+        let (word, behind) = word_and_rest(rest);
         found.push(word)?;
         let (_gap, after) = white(behind);
         rest = after;
@@ -20,7 +20,7 @@ pub(crate) fn words<'a>(alloc: Global, text: &'a [u8]) -> Result<Vec<&'a [u8]>, 
 }
 
 /// A text of which every brace is taken out.
-pub(crate) fn bare(alloc: Global, text: &[u8]) -> Result<Vec<u8>, AllocError>
+pub(crate) fn drop_braces(alloc: Global, text: &[u8]) -> Result<Vec<u8>, AllocError>
     ensures { IfOk result (λ v. v.items ≡ without_braces text.now) }
 {
     text.iter()
@@ -40,8 +40,8 @@ fn white(text: &[u8]) -> (&[u8], &[u8])
 }
 
 /// What stands in front of the first white space, and what follows.
-fn dark(text: &[u8]) -> (&[u8], &[u8])
-    ensures { IsSpan is_dark text.now result.0.now result.1.now }
+fn word_and_rest(text: &[u8]) -> (&[u8], &[u8])
+    ensures { IsSpan is_word_byte text.now result.0.now result.1.now }
 {
     let Some(end) = text.iter().position(|b| is_white_byte(*b)) else {
         return text.split_at(text.len());

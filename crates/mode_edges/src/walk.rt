@@ -45,7 +45,8 @@ impl<'a> PinWalk<'a> {
 
     /// The next pin.
     pub(crate) fn next_pin(&mut self) -> Option<LocalPin>
-        ensures { MatchOption result (pins_left self.old ≡ []) (λ p. pins_left self.old ≡ p ∷ pins_left self.new) }
+        ensures { MatchOption result (pins_left self.old ≡ [])
+            (λ p. pins_left self.old ≡ p ∷ pins_left self.new) }
     {
         if self.find_row() {
             Some(self.take_pin())
@@ -56,7 +57,8 @@ impl<'a> PinWalk<'a> {
 
     /// Goes on to a row that has pins left.
     fn find_row(&mut self) -> bool
-        ensures { MatchBool result ((pins_left self.new ≡ pins_left self.old) × (self.new.row.low < self.new.row.end)) (pins_left self.old ≡ []) }
+        ensures { MatchBool result ((pins_left self.new ≡ pins_left self.old)
+            × (self.new.row.low < self.new.row.end)) (pins_left self.old ≡ []) }
     {
         while self.row.low >= self.row.end {
             if !self.next_row() {

@@ -35,7 +35,8 @@ pub(crate) fn word(text: &[u8]) -> Option<PinWord<'_>>
 
 /// Reads a name, alone or with an index or a range in brackets behind it.
 pub(crate) fn part(text: &[u8]) -> Option<(&[u8], Option<Ends>)>
-    ensures { MatchOption result ((name : List ℕ) (index : Index) → IsPart text.now name index → ⊥) (λ r. ReadsPart text.now r.0.now r.1) }
+    ensures { MatchOption result ((name : List ℕ) (index : Index) → IsPart text.now name index → ⊥)
+        (λ r. ReadsPart text.now r.0.now r.1) }
 {
     let Some((name, behind)) = cut(text, b'[') else {
         return Some((text, None));
@@ -50,7 +51,8 @@ pub(crate) fn part(text: &[u8]) -> Option<(&[u8], Option<Ends>)>
 
 /// Reads `n` or `m:l`.
 fn range(text: &[u8]) -> Option<Ends>
-    ensures { MatchOption result ((low high : ℕ) → IsRange text.now low high → ⊥) (λ ends. ReadsRange text.now ends) }
+    ensures { MatchOption result ((low high : ℕ) → IsRange text.now low high → ⊥)
+        (λ ends. ReadsRange text.now ends) }
 {
     let Some((one, other)) = cut(text, b':') else {
         let n = number(text)?;
@@ -66,7 +68,8 @@ fn range(text: &[u8]) -> Option<Ends>
 
 /// The value of decimal digits, leading zeros among them, or 2^32 - 1 where it is larger.
 fn number(text: &[u8]) -> Option<u32>
-    ensures { MatchOption result ((n : ℕ) → AreDigits text.now n → ⊥) (λ value. ReadsNumber text.now value) }
+    ensures { MatchOption result ((n : ℕ) → AreDigits text.now n → ⊥)
+        (λ value. ReadsNumber text.now value) }
 {
     if text.is_empty() {
         return None;
@@ -100,7 +103,8 @@ fn with_digit(value: u32, digit: u8) -> u32
 
 /// What stands before the first such byte, and what stands behind it.
 fn cut(text: &[u8], at: u8) -> Option<(&[u8], &[u8])>
-    ensures { MatchOption result (Lacks text.now at) (λ parts. IsCut text.now at parts.0.now parts.1.now) }
+    ensures { MatchOption result (Lacks text.now at)
+        (λ parts. IsCut text.now at parts.0.now parts.1.now) }
 {
     let place = text.iter().position(|b| *b == at)?;
     Some((&text[..place], &text[place + 1..]))

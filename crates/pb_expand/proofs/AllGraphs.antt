@@ -1,5 +1,6 @@
 -- The graphs of all block types, one by one.
 use Rattle.std.proofs.Common.{◌≡◌, ◌+◌, ◌<◌, ◌≤◌, ◌⊎◌, ℕ, zero, suc, List, [], ◌∷◌, Some, length, slice_get, sym, ap, ◌∙◌, subst, inl, inr, arith, length-append, eq-or-lt_of_le}
+use Rattle.std.proofs.lemmas.Option.{slice_get_within}
 use Rattle.arch_types.specs.declared.block.PbType.{PbType}
 use Rattle.pb_expand.specs.Graph.{Graph}
 use Rattle.pb_expand.specs.Expansion.{IsExpansion}
@@ -65,3 +66,15 @@ one_made blocks n root old new at_n made adds = record {
     each : (k : ℕ) (g : Graph) → (slice_get old k ≡ Some g) ⊎ ((j : ℕ) × (k ≡ length old + j) × (slice_get (adds.graph ∷ []) j ≡ Some g)) → IsGraphOf blocks k g
     each k g (inl was) = made.each k g was
     each k g (inr new') = last k g new'.0 new'.1 new'.2
+
+pub root_is_sound : (blocks : List PbType) (n : ℕ) (graphs : List Graph) → AreMade blocks n graphs → (k : ℕ) (g : Graph) → slice_get graphs k ≡ Some g →
+    AreSound (modes_in_tree g.root)
+root_is_sound blocks n graphs made k g at =
+    let low = slice_get_within graphs k g at in
+    made.sound k g.root (omega (arith, low, made.all)) (made.each k g at).root
+
+pub root_fits : (blocks : List PbType) (n : ℕ) (graphs : List Graph) → AreMade blocks n graphs → (k : ℕ) (g : Graph) → slice_get graphs k ≡ Some g →
+    IsTooLarge g.root → ⊥
+root_fits blocks n graphs made k g at =
+    let low = slice_get_within graphs k g at in
+    made.fits k g.root (omega (arith, low, made.all)) (made.each k g at).root

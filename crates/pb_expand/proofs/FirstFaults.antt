@@ -8,7 +8,7 @@ use Rattle.arch_types.specs.Tree.{kids_of}
 use Rattle.arch_types.proofs.Once.{has_either}
 use Rattle.mode_edges.specs.declared.faults.EdgeError.{EdgeError}
 use Rattle.mode_edges.specs.declared.faults.EdgeError.TheVariants.{NoSuchPin, Width, WideMux, OutOfMemory}
-use Rattle.mode_edges.specs.Faults.{IsSound, IsFirstFault, TellsFirst}
+use Rattle.mode_edges.specs.Faults.{IsSoundMode, IsFirstFault, TellsFirst}
 use Rattle.pb_expand.specs.Types.{ModeOf, mode_of, modes_in_tree}
 use Rattle.pb_expand.specs.Refusals.{AreSound, IsFirstIn, TellsFirstIn}
 use Rattle.pb_expand.proofs.Lists.{get_front, get_behind, get_either, has_at}
@@ -26,7 +26,7 @@ first_front xs ys e first = record {
   before = λ k m low at. by k m low (get_either xs ys k m at);
 }
   where
-    by : (k : ℕ) (m : ModeOf) → k < first.place → (slice_get xs k ≡ Some m) ⊎ ((j : ℕ) × (k ≡ length xs + j) × (slice_get ys j ≡ Some m)) → IsSound m.block m.mode
+    by : (k : ℕ) (m : ModeOf) → k < first.place → (slice_get xs k ≡ Some m) ⊎ ((j : ℕ) × (k ≡ length xs + j) × (slice_get ys j ≡ Some m)) → IsSoundMode m.block m.mode
     by k m low (inl at) = first.before k m low at
     by k m low (inr h) = let place = h.1 in absurd (omega (arith, slice_get_within xs first.place first.at first.is_at))
 
@@ -39,7 +39,7 @@ first_behind xs ys e sound first = record {
   before = λ k m low at. by k m low (get_either xs ys k m at);
 }
   where
-    by : (k : ℕ) (m : ModeOf) → k < length xs + first.place → (slice_get xs k ≡ Some m) ⊎ ((j : ℕ) × (k ≡ length xs + j) × (slice_get ys j ≡ Some m)) → IsSound m.block m.mode
+    by : (k : ℕ) (m : ModeOf) → k < length xs + first.place → (slice_get xs k ≡ Some m) ⊎ ((j : ℕ) × (k ≡ length xs + j) × (slice_get ys j ≡ Some m)) → IsSoundMode m.block m.mode
     by k m low (inl at) = sound m (has_at xs k m at)
     by k m low (inr h) = let place = h.1 in first.before h.0 m (omega arith) h.2
 
@@ -64,8 +64,8 @@ tells_one block mode (Width inter) t = one_mode block mode (Width inter) t
 tells_one block mode (WideMux inter) t = one_mode block mode (WideMux inter) t
 tells_one block mode OutOfMemory t = t
 
-pub sound_one : (block : PbType) (mode : Mode) → IsSound block mode → AreSound (mode_of block mode ∷ [])
-sound_one block mode sound m (inl is) = subst (λ (x : ModeOf). IsSound x.block x.mode) (sym is) sound
+pub sound_one : (block : PbType) (mode : Mode) → IsSoundMode block mode → AreSound (mode_of block mode ∷ [])
+sound_one block mode sound m (inl is) = subst (λ (x : ModeOf). IsSoundMode x.block x.mode) (sym is) sound
 sound_one block mode sound m (inr has) = absurd has
 
 -- all that was passed is sound: what the rest says holds of all

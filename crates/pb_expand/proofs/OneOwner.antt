@@ -13,7 +13,7 @@ use Rattle.arch_types.specs.Address.{Address, Hop, at, child_at, step_to}
 use Rattle.arch_types.proofs.Once.{has_either}
 use Rattle.mode_edges.specs.declared.pin.LocalPin.{LocalPin}
 use Rattle.mode_edges.specs.declared.pin.ChildAt.{ChildAt}
-use Rattle.mode_edges.specs.declared.pin.Role.TheVariants.{End}
+use Rattle.mode_edges.specs.declared.pin.EdgeEnd.TheVariants.{End}
 use Rattle.mode_edges.specs.PinWords.{IsOwnSide, IsChildSide, Word, NamesOwn, NamesChild, NamesAll, own_pin, child_pin}
 use Rattle.mode_edges.specs.Edges.{IsEdge}
 use Rattle.pb_expand.specs.declared.number.PinAt.{PinAt}

@@ -12,7 +12,7 @@ use Rattle.arch_types.specs.Tree.{kids_of}
 use Rattle.arch_types.proofs.Once.{has_either}
 use Rattle.mode_edges.specs.declared.pin.LocalPin.{LocalPin}
 use Rattle.mode_edges.specs.declared.pin.ChildAt.{ChildAt}
-use Rattle.mode_edges.specs.declared.pin.Role.{Role}
+use Rattle.mode_edges.specs.declared.pin.EdgeEnd.{EdgeEnd}
 use Rattle.mode_edges.specs.PinWords.{Index, AreMembers, Word, NamesPort, NamesOwn, NamesChild, NamesAll, own_pin, child_pin}
 use Rattle.mode_edges.specs.Edges.{IsPairFrom, IsEdge}
 use Rattle.pb_expand.proofs.Lists.{has_at}
@@ -55,13 +55,13 @@ flat_map_has f (x ∷ xs) y has = elim (has_either (f x) (flat_map f xs) y has) 
 port_there : (ports : List Port) (Fits : Side → Type 0) (w : Word) (port : ℕ) (bits : List ℕ) (b : ℕ) → NamesPort ports Fits w port bits → Has bits b → HasBit ports port b
 port_there ports Fits w port bits b names has = (names.is, names.there, member_inside w.bits names.is.width bits b names.members has)
 
-own_there : (block : PbType) (mode : Mode) (role : Role) (w : Word) (pins : List LocalPin) (p : LocalPin) → NamesOwn block role w pins → Has pins p → IsThere block mode p
+own_there : (block : PbType) (mode : Mode) (role : EdgeEnd) (w : Word) (pins : List LocalPin) (p : LocalPin) → NamesOwn block role w pins → Has pins p → IsThere block mode p
 own_there block mode role w pins p names has =
     let bit = map_has (own_pin names.port) names.bits p (subst (λ ps. Has ps p) names.are has) in
     let there : IsThere block mode (own_pin names.port bit.0) = port_there block.ports _ w names.port names.bits bit.0 names.names bit.1 in
     subst (IsThere block mode) (sym bit.2) there
 
-child_there : (block : PbType) (mode : Mode) (role : Role) (w : Word) (pins : List LocalPin) (p : LocalPin) → NamesChild block mode role w pins → Has pins p → IsThere block mode p
+child_there : (block : PbType) (mode : Mode) (role : EdgeEnd) (w : Word) (pins : List LocalPin) (p : LocalPin) → NamesChild block mode role w pins → Has pins p → IsThere block mode p
 child_there block mode role w pins p names has =
     let instance = flat_map_has (λ i. map (child_pin names.child i names.port) names.bits) names.instances p (subst (λ ps. Has ps p) names.are has) in
     let bit = map_has (child_pin names.child instance.0 names.port) names.bits p instance.2 in
@@ -70,12 +70,12 @@ child_there block mode role w pins p names has =
     (names.kid, names.there, counted, port_there names.kid.ports _ w names.port names.bits bit.0 names.names bit.1) in
     subst (IsThere block mode) (sym bit.2) there
 
-word_there : (block : PbType) (mode : Mode) (role : Role) (w : Word) (pins : List LocalPin) (p : LocalPin) → NamesOwn block role w pins ⊎ NamesChild block mode role w pins →
+word_there : (block : PbType) (mode : Mode) (role : EdgeEnd) (w : Word) (pins : List LocalPin) (p : LocalPin) → NamesOwn block role w pins ⊎ NamesChild block mode role w pins →
     Has pins p → IsThere block mode p
 word_there block mode role w pins p (inl names) has = own_there block mode role w pins p names has
 word_there block mode role w pins p (inr names) has = child_there block mode role w pins p names has
 
-all_there : (block : PbType) (mode : Mode) (role : Role) (texts : List (List ℕ)) (pins : List LocalPin) (p : LocalPin) → NamesAll block mode role texts pins →
+all_there : (block : PbType) (mode : Mode) (role : EdgeEnd) (texts : List (List ℕ)) (pins : List LocalPin) (p : LocalPin) → NamesAll block mode role texts pins →
     Has pins p → IsThere block mode p
 all_there block mode role [] pins p none has = absurd (subst (λ ps. Has ps p) none has)
 all_there block mode role (text ∷ texts) pins p names has =

@@ -10,14 +10,14 @@ use Rattle.arch_types.specs.Address.{Address, at, child_at, instances_of}
 use Rattle.arch_types.proofs.Once.{has_left, has_right}
 use Rattle.mode_edges.specs.declared.faults.EdgeError.{EdgeError}
 use Rattle.mode_edges.specs.declared.faults.EdgeError.TheVariants as edge
-use Rattle.mode_edges.specs.Faults.{IsSound}
+use Rattle.mode_edges.specs.Faults.{IsSoundMode}
 use Rattle.pb_expand.specs.declared.error.SizeError.{SizeError}
 use Rattle.pb_expand.specs.declared.error.SizeError.TheVariants as size
 use Rattle.pb_expand.specs.declared.number.Edge.{Edge}
 use Rattle.pb_expand.specs.declared.number.PinAt.{PinAt}
 use Rattle.pb_expand.specs.Graph.{pins_of}
 use Rattle.pb_expand.specs.Types.{ModeOf, mode_of, own_modes, modes_in_tree, below_mode}
-use Rattle.pb_expand.specs.Refusals.{AreSound, TellsFirstIn, without_edges, TreeHasMoreEdges, IsTooLarge, IsRefusal, edge_told, size_told}
+use Rattle.pb_expand.specs.Refusals.{AreSound, TellsFirstIn, without_edges, TreeHasMoreEdges, IsTooLarge, IsRefusal, error_of_edge, error_of_size}
 use Rattle.pb_expand.specs.Making.{AreBlocks, AreBefore, AreMore}
 use Rattle.pb_expand.proofs.Lists.{element}
 use Rattle.pb_expand.proofs.Blocks.{takes}
@@ -66,7 +66,7 @@ in_tree (hop ∷ hops) p block m mode found at_m = by (child_at p hop) refl foun
 
 -- the modes of the instances of a sound tree are sound
 pub sound_at : (root : PbType) (blocks : List PbType) (instances : List Address) → AreSound (modes_in_tree root) → AreBlocks root instances blocks →
-    (n m : ℕ) (block : PbType) (mode : Mode) → slice_get blocks n ≡ Some block → slice_get (modes_of block.kind) m ≡ Some mode → IsSound block mode
+    (n m : ℕ) (block : PbType) (mode : Mode) → slice_get blocks n ≡ Some block → slice_get (modes_of block.kind) m ≡ Some mode → IsSoundMode block mode
 sound_at root blocks instances sound are n m block mode at_n at_m =
     let inside : n < length instances = omega (arith, slice_get_within blocks n block at_n, are.all) in
     let address = element instances n inside in
@@ -97,14 +97,14 @@ not_more root blocks instances pins edges most are is_instances is_pins before f
     here.all e made (inl (slice_get_within blocks e.owner.0 made.block made.is_block)) in
     absurd (omega (arith, few_of more.edges edges (once_of more.edges more.once) all, more.more))
 
-pub fault_told : (root : PbType) (e : EdgeError) → TellsFirstIn (modes_in_tree root) e → IsRefusal root (edge_told e)
+pub fault_told : (root : PbType) (e : EdgeError) → TellsFirstIn (modes_in_tree root) e → IsRefusal root (error_of_edge e)
 fault_told root (edge.NoSuchPin inter) t = t
 fault_told root (edge.Width inter) t = t
 fault_told root (edge.WideMux inter) t = t
 fault_told root edge.OutOfMemory t = t
 
 pub excess_told : {T : Type 0} (root : PbType) (e : SizeError) (r : Result T SizeError) → r ≡ Err e → AreSound (modes_in_tree root) → (IsErrOf r size.TooMany → IsTooLarge root) →
-    IsRefusal root (size_told e)
+    IsRefusal root (error_of_size e)
 excess_told root size.TooMany r is sound large = (sound, large is)
 excess_told root size.OutOfMemory r is sound large = tt
 

@@ -13,6 +13,8 @@ pub record AreGraphs (blocks : List PbType) (graphs : List Graph) : Type 0 where
   pub number : (n : ℕ) (g : Graph) → slice_get graphs n ≡ Some g → g.block ≡ n
   pub root : (n : ℕ) (g : Graph) → slice_get graphs n ≡ Some g → slice_get blocks n ≡ Some g.root
   pub expansion : (n : ℕ) (g : Graph) → slice_get graphs n ≡ Some g → IsExpansion g
+  pub sound : (n : ℕ) (g : Graph) → slice_get graphs n ≡ Some g → AreSound (modes_in_tree g.root)
+  pub fits : (n : ℕ) (g : Graph) → slice_get graphs n ≡ Some g → IsTooLarge g.root → ⊥
 
 -- a block type is refused, and all before it can be expanded
 pub record IsFirstRefused (blocks : List PbType) (refused : BlockError) : Type 0 where

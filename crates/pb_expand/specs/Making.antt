@@ -10,7 +10,7 @@ use Rattle.mode_edges.specs.declared.pin.LocalPin.{LocalPin}
 use Rattle.mode_edges.specs.declared.pin.LocalEdge.{LocalEdge}
 use Rattle.mode_edges.specs.declared.pin.ChildAt.{ChildAt}
 use Rattle.mode_edges.specs.Edges.{IsEdge, AreEdges}
-use Rattle.mode_edges.specs.Faults.{IsSound}
+use Rattle.mode_edges.specs.Faults.{IsSoundMode}
 use Rattle.pb_expand.specs.declared.number.Step.{Step}
 use Rattle.pb_expand.specs.declared.number.PinAt.{PinAt}
 use Rattle.pb_expand.specs.declared.number.Edge.{Edge}
@@ -170,7 +170,7 @@ pub record AreParts (blocks : List PbType) (rows : List Step) (pins : List PinAt
   pub short : AreShort blocks
   pub all : length blocks ≡ 1 + length rows
   pub all_addresses : length blocks ≡ length (addresses rows)
-  pub sound : (n m : ℕ) (block : PbType) (mode : Mode) → slice_get blocks n ≡ Some block → slice_get (modes_of block.kind) m ≡ Some mode → IsSound block mode
+  pub sound : (n m : ℕ) (block : PbType) (mode : Mode) → slice_get blocks n ≡ Some block → slice_get (modes_of block.kind) m ≡ Some mode → IsSoundMode block mode
   pub places : (n m : ℕ) (block : PbType) (mode : Mode) (local : List LocalEdge) → slice_get blocks n ≡ Some block → slice_get (modes_of block.kind) m ≡ Some mode →
       AreEdges block mode local → HavePlaces rows pins n m local
 

@@ -5,7 +5,7 @@ use Rattle.arch_types.specs.declared.block.PbType.{PbType}
 use Rattle.arch_types.specs.Address.{instances_of}
 use Rattle.mode_edges.specs.declared.faults.EdgeError.{EdgeError}
 use Rattle.mode_edges.specs.declared.faults.EdgeError.TheVariants as edge
-use Rattle.mode_edges.specs.Faults.{IsSound, IsFirstFault}
+use Rattle.mode_edges.specs.Faults.{IsSoundMode, IsFirstFault}
 use Rattle.pb_expand.specs.declared.error.ExpandError.{ExpandError}
 use Rattle.pb_expand.specs.declared.error.ExpandError.TheVariants.{NoSuchPin, Width, WideMux, TooMany, OutOfMemory}
 use Rattle.pb_expand.specs.declared.error.SizeError.{SizeError}
@@ -17,7 +17,7 @@ use Rattle.pb_expand.specs.Expansion.{IsEdgeOf}
 
 -- each interconnect of these modes names pins rightly
 abbrev pub AreSound : List ModeOf → Type 0
-AreSound modes = (m : ModeOf) → Has modes m → IsSound m.block m.mode
+AreSound modes = (m : ModeOf) → Has modes m → IsSoundMode m.block m.mode
 
 -- an interconnect fails by this rule, and all that come before it are sound
 pub record IsFirstIn (modes : List ModeOf) (e : EdgeError) : Type 0 where
@@ -25,7 +25,7 @@ pub record IsFirstIn (modes : List ModeOf) (e : EdgeError) : Type 0 where
   pub at : ModeOf
   pub is_at : slice_get modes place ≡ Some at
   pub fault : IsFirstFault at.block at.mode e
-  pub before : (k : ℕ) (m : ModeOf) → k < place → slice_get modes k ≡ Some m → IsSound m.block m.mode
+  pub before : (k : ℕ) (m : ModeOf) → k < place → slice_get modes k ≡ Some m → IsSoundMode m.block m.mode
 
 -- an error other than want of memory tells the first interconnect of these modes that fails
 abbrev pub TellsFirstIn : List ModeOf → EdgeError → Type 0
@@ -58,12 +58,12 @@ IsRefusal root TooMany = AreSound (modes_in_tree root) × IsTooLarge root
 IsRefusal root OutOfMemory = Unit {0}
 
 -- what is told of a fault of a mode
-abbrev pub edge_told : EdgeError → ExpandError
-edge_told (edge.NoSuchPin inter) = NoSuchPin inter
-edge_told (edge.Width inter) = Width inter
-edge_told (edge.WideMux inter) = WideMux inter
-edge_told edge.OutOfMemory = OutOfMemory
+abbrev pub error_of_edge : EdgeError → ExpandError
+error_of_edge (edge.NoSuchPin inter) = NoSuchPin inter
+error_of_edge (edge.Width inter) = Width inter
+error_of_edge (edge.WideMux inter) = WideMux inter
+error_of_edge edge.OutOfMemory = OutOfMemory
 
-abbrev pub size_told : SizeError → ExpandError
-size_told size.TooMany = TooMany
-size_told size.OutOfMemory = OutOfMemory
+abbrev pub error_of_size : SizeError → ExpandError
+error_of_size size.TooMany = TooMany
+error_of_size size.OutOfMemory = OutOfMemory

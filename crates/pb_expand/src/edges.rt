@@ -1,7 +1,7 @@
 ghost use Rattle.std.specs.Prelude.{◌≡◌, ◌≤◌, ◌<◌, ◌+◌, ℕ, Some, IfOk, OnOk, IsErrOf, map, length, slice_get};
 ghost use Rattle.arch_types.specs.Address.{Address};
 ghost use Rattle.mode_edges.specs.Edges.{AreEdges, HasMoreEdges};
-ghost use Rattle.mode_edges.specs.Faults.{IsSound};
+ghost use Rattle.mode_edges.specs.Faults.{IsSoundMode};
 ghost use Rattle.pb_expand.specs.Graph.{pin_at};
 ghost use Rattle.pb_expand.specs.Rows.{addresses, IsTree};
 ghost use Rattle.pb_expand.specs.Making.{AreBefore, AddsPlaced, Stands, StandFor, AreParts, AreMore, HaveModeEdges, AreModeEdgesOf, Keeps, HavePlaces, HasPlace, IsOwner};
@@ -9,7 +9,7 @@ ghost use Rattle.pb_expand.specs.declared.error.SizeError.{SizeError};
 
 use crate::error::SizeError;
 use crate::graph::{modes_in, place_of_pin, place_of_step};
-use crate::places::Places;
+use crate::places::GraphRows;
 use crate::{Edge, PbIx, PinAt, PinIx, Step};
 use arch_types::{Mode, PbType};
 use indexmap::IndexSet;
@@ -26,13 +26,18 @@ struct ModeEdges {
 }
 
 /// The edges of all instances in all their modes.
-pub(crate) fn edges_of(alloc: Global, places: &Places) -> Result<Vec<Edge>, SizeError>
-    requires parts { AreParts (map (λ b. b.now) places.now.blocks.items) places.now.rows.keys places.now.pins.keys }
+pub(crate) fn edges_of(alloc: Global, places: &GraphRows) -> Result<Vec<Edge>, SizeError>
+    requires parts { AreParts (map (λ b. b.now) places.now.blocks.items) places.now.rows.keys
+        places.now.pins.keys }
     requires firsts { StandFor (map (λ b. b.now) places.now.blocks.items) places.now.firsts.items }
     requires all_firsts { length places.now.firsts.items ≡ length places.now.blocks.items }
-    ensures edges { IfOk result (λ es. AreBefore (map (λ b. b.now) places.now.blocks.items) (addresses places.now.rows.keys) places.now.pins.keys (length places.now.blocks.items) 0 es.items) }
+    ensures edges { IfOk result (λ es. AreBefore (map (λ b. b.now) places.now.blocks.items)
+        (addresses places.now.rows.keys) places.now.pins.keys (length places.now.blocks.items) 0
+        es.items) }
     ensures few { IfOk result (λ es. length es.items ≤ 4194304) }
-    ensures many { IsErrOf result SizeError.TooMany → AreMore (map (λ b. b.now) places.now.blocks.items) (addresses places.now.rows.keys) places.now.pins.keys 4194304 }
+    ensures many { IsErrOf result SizeError.TooMany → AreMore
+        (map (λ b. b.now) places.now.blocks.items) (addresses places.now.rows.keys)
+        places.now.pins.keys 4194304 }
 {
     let mut edges = Vec::new(alloc);
     let mut lists = Vec::new(alloc);
@@ -54,22 +59,29 @@ pub(crate) fn edges_of(alloc: Global, places: &Places) -> Result<Vec<Edge>, Size
 fn push_owner(
     alloc: Global,
     edges: &mut Vec<Edge>,
-    places: &Places,
+    places: &GraphRows,
     lists: &[Vec<ModeEdges>],
     owner: PbIx,
 ) -> Result<Vec<ModeEdges>, SizeError>
-    requires parts { AreParts (map (λ b. b.now) places.now.blocks.items) places.now.rows.keys places.now.pins.keys }
+    requires parts { AreParts (map (λ b. b.now) places.now.blocks.items) places.now.rows.keys
+        places.now.pins.keys }
     requires firsts { StandFor (map (λ b. b.now) places.now.blocks.items) places.now.firsts.items }
     requires all_firsts { length places.now.firsts.items ≡ length places.now.blocks.items }
     requires there { owner.0 < length places.now.blocks.items }
-    requires before { AreBefore (map (λ b. b.now) places.now.blocks.items) (addresses places.now.rows.keys) places.now.pins.keys owner.0 0 edges.old.items }
+    requires before { AreBefore (map (λ b. b.now) places.now.blocks.items)
+        (addresses places.now.rows.keys) places.now.pins.keys owner.0 0 edges.old.items }
     requires few { length edges.old.items ≤ 4194304 }
-    requires lists { HaveModeEdges (map (λ b. b.now) places.now.blocks.items) places.now.firsts.items lists.now }
+    requires lists { HaveModeEdges (map (λ b. b.now) places.now.blocks.items)
+        places.now.firsts.items lists.now }
     requires all_lists { length lists.now ≡ owner.0 }
-    ensures edges { OnOk result (AreBefore (map (λ b. b.now) places.now.blocks.items) (addresses places.now.rows.keys) places.now.pins.keys (owner.0 + 1) 0 edges.new.items) }
+    ensures edges { OnOk result (AreBefore (map (λ b. b.now) places.now.blocks.items)
+        (addresses places.now.rows.keys) places.now.pins.keys (owner.0 + 1) 0 edges.new.items) }
     ensures few { OnOk result (length edges.new.items ≤ 4194304) }
-    ensures made { IfOk result (λ made. slice_get places.now.firsts.items owner.0 ≡ Some owner → AreModeEdgesOf (map (λ b. b.now) places.now.blocks.items) owner.0 made.items) }
-    ensures many { IsErrOf result SizeError.TooMany → AreMore (map (λ b. b.now) places.now.blocks.items) (addresses places.now.rows.keys) places.now.pins.keys 4194304 }
+    ensures made { IfOk result (λ made. slice_get places.now.firsts.items owner.0 ≡ Some owner
+        → AreModeEdgesOf (map (λ b. b.now) places.now.blocks.items) owner.0 made.items) }
+    ensures many { IsErrOf result SizeError.TooMany → AreMore
+        (map (λ b. b.now) places.now.blocks.items) (addresses places.now.rows.keys)
+        places.now.pins.keys 4194304 }
 {
     let first = places.firsts[owner.0 as usize];
     if first.0 >= owner.0 {
@@ -83,17 +95,23 @@ fn push_owner(
 fn push_new(
     alloc: Global,
     edges: &mut Vec<Edge>,
-    places: &Places,
+    places: &GraphRows,
     owner: PbIx,
 ) -> Result<Vec<ModeEdges>, SizeError>
-    requires parts { AreParts (map (λ b. b.now) places.now.blocks.items) places.now.rows.keys places.now.pins.keys }
+    requires parts { AreParts (map (λ b. b.now) places.now.blocks.items) places.now.rows.keys
+        places.now.pins.keys }
     requires there { owner.0 < length places.now.blocks.items }
-    requires before { AreBefore (map (λ b. b.now) places.now.blocks.items) (addresses places.now.rows.keys) places.now.pins.keys owner.0 0 edges.old.items }
+    requires before { AreBefore (map (λ b. b.now) places.now.blocks.items)
+        (addresses places.now.rows.keys) places.now.pins.keys owner.0 0 edges.old.items }
     requires few { length edges.old.items ≤ 4194304 }
-    ensures edges { OnOk result (AreBefore (map (λ b. b.now) places.now.blocks.items) (addresses places.now.rows.keys) places.now.pins.keys (owner.0 + 1) 0 edges.new.items) }
+    ensures edges { OnOk result (AreBefore (map (λ b. b.now) places.now.blocks.items)
+        (addresses places.now.rows.keys) places.now.pins.keys (owner.0 + 1) 0 edges.new.items) }
     ensures few { OnOk result (length edges.new.items ≤ 4194304) }
-    ensures made { IfOk result (λ made. AreModeEdgesOf (map (λ b. b.now) places.now.blocks.items) owner.0 made.items) }
-    ensures many { IsErrOf result SizeError.TooMany → AreMore (map (λ b. b.now) places.now.blocks.items) (addresses places.now.rows.keys) places.now.pins.keys 4194304 }
+    ensures made { IfOk result (λ made. AreModeEdgesOf (map (λ b. b.now) places.now.blocks.items)
+        owner.0 made.items) }
+    ensures many { IsErrOf result SizeError.TooMany → AreMore
+        (map (λ b. b.now) places.now.blocks.items) (addresses places.now.rows.keys)
+        places.now.pins.keys 4194304 }
 {
     let block: &PbType = places.blocks[owner.0 as usize];
     let ports = PortNames::new(alloc, block)?;
@@ -122,18 +140,23 @@ fn keep(kept: &mut Vec<ModeEdges>, mode: u32, edges: Vec<LocalEdge>) -> Result<(
 /// known.
 fn push_known(
     edges: &mut Vec<Edge>,
-    places: &Places,
+    places: &GraphRows,
     owner: PbIx,
     kept: &[ModeEdges],
 ) -> Result<(), SizeError>
-    requires parts { AreParts (map (λ b. b.now) places.now.blocks.items) places.now.rows.keys places.now.pins.keys }
+    requires parts { AreParts (map (λ b. b.now) places.now.blocks.items) places.now.rows.keys
+        places.now.pins.keys }
     requires there { owner.0 < length places.now.blocks.items }
-    requires before { AreBefore (map (λ b. b.now) places.now.blocks.items) (addresses places.now.rows.keys) places.now.pins.keys owner.0 0 edges.old.items }
+    requires before { AreBefore (map (λ b. b.now) places.now.blocks.items)
+        (addresses places.now.rows.keys) places.now.pins.keys owner.0 0 edges.old.items }
     requires few { length edges.old.items ≤ 4194304 }
     requires kept { AreModeEdgesOf (map (λ b. b.now) places.now.blocks.items) owner.0 kept.now }
-    ensures edges { OnOk result (AreBefore (map (λ b. b.now) places.now.blocks.items) (addresses places.now.rows.keys) places.now.pins.keys (owner.0 + 1) 0 edges.new.items) }
+    ensures edges { OnOk result (AreBefore (map (λ b. b.now) places.now.blocks.items)
+        (addresses places.now.rows.keys) places.now.pins.keys (owner.0 + 1) 0 edges.new.items) }
     ensures few { OnOk result (length edges.new.items ≤ 4194304) }
-    ensures many { IsErrOf result SizeError.TooMany → AreMore (map (λ b. b.now) places.now.blocks.items) (addresses places.now.rows.keys) places.now.pins.keys 4194304 }
+    ensures many { IsErrOf result SizeError.TooMany → AreMore
+        (map (λ b. b.now) places.now.blocks.items) (addresses places.now.rows.keys)
+        places.now.pins.keys 4194304 }
 {
     for known in kept {
         if known.edges.len() > MOST_EDGES - edges.len() {
@@ -151,7 +174,7 @@ fn local_edges(
     mode: &Mode,
     most: usize,
 ) -> Result<Vec<LocalEdge>, SizeError>
-    requires { IsSound ports.now mode.now }
+    requires { IsSoundMode ports.now mode.now }
     ensures edges { IfOk result (λ edges. AreEdges ports.now mode.now edges.items) }
     ensures few { IfOk result (λ edges. length edges.items ≤ most) }
     ensures many { IsErrOf result SizeError.TooMany → HasMoreEdges ports.now mode.now most }
@@ -166,7 +189,7 @@ fn local_edges(
 /// Adds the edges of a mode of an instance.
 fn push_local(
     edges: &mut Vec<Edge>,
-    places: &Places,
+    places: &GraphRows,
     owner: PbIx,
     mode: u32,
     local: &[LocalEdge],
@@ -175,7 +198,8 @@ fn push_local(
     requires few_rows { length places.now.rows.keys ≤ 1048575 }
     requires few_pins { length places.now.pins.keys ≤ 1048576 }
     requires places { HavePlaces places.now.rows.keys places.now.pins.keys owner.0 mode local.now }
-    ensures { OnOk result (AddsPlaced (addresses places.now.rows.keys) places.now.pins.keys owner.0 mode local.now edges.old.items edges.new.items) }
+    ensures { OnOk result (AddsPlaced (addresses places.now.rows.keys) places.now.pins.keys owner.0
+        mode local.now edges.old.items edges.new.items) }
 {
     for edge in local {
         let src = place_of(&places.rows, &places.pins, owner, mode, edge.src);
@@ -203,7 +227,8 @@ fn place_of(
     requires few_rows { length rows.now.keys ≤ 1048575 }
     requires few_pins { length pins.now.keys ≤ 1048576 }
     requires there { HasPlace rows.now.keys pins.now.keys owner.0 mode pin }
-    ensures { (a : Address) → slice_get (addresses rows.now.keys) owner.0 ≡ Some a → Stands (addresses rows.now.keys) pins.now.keys result.0 a mode pin }
+    ensures { (a : Address) → slice_get (addresses rows.now.keys) owner.0 ≡ Some a → Stands
+        (addresses rows.now.keys) pins.now.keys result.0 a mode pin }
 {
     let pb = owner_of(rows, owner, mode, pin.owner);
     let wanted = PinAt {

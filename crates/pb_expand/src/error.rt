@@ -1,7 +1,7 @@
 ghost use Rattle.std.specs.Prelude.{◌≡◌};
 ghost use Rattle.pb_expand.specs.declared.error.ExpandError.TheVariants.{OutOfMemory};
 ghost use Rattle.pb_expand.specs.declared.error.SizeError.TheVariants as size;
-ghost use Rattle.pb_expand.specs.Refusals.{size_told, edge_told};
+ghost use Rattle.pb_expand.specs.Refusals.{error_of_size, error_of_edge};
 
 use mode_edges::EdgeError;
 use std::alloc::{AllocError, AllocFailed};
@@ -44,7 +44,7 @@ impl<T: Drop> From<AllocFailed<T>> for ExpandError {
 }
 
 impl From<EdgeError> for ExpandError {
-    ghost from_gives = { λ e told. told ≡ edge_told e };
+    ghost from_gives = { λ e told. told ≡ error_of_edge e };
 
     fn from(e: EdgeError) -> ExpandError {
         match e {
@@ -57,7 +57,7 @@ impl From<EdgeError> for ExpandError {
 }
 
 impl From<SizeError> for ExpandError {
-    ghost from_gives = { λ e told. told ≡ size_told e };
+    ghost from_gives = { λ e told. told ≡ error_of_size e };
 
     fn from(e: SizeError) -> ExpandError {
         match e {

@@ -144,7 +144,9 @@ impl PbGraph {
     /// The instance below one by a mode, a child of it and an instance of the child.
     pub fn child_of(&self, pb: PbIx, mode: u32, child: u32, instance: u32) -> Option<PbIx>
         requires { pb.0 < length self.now.instances }
-        ensures { MatchOption result ((n : ℕ) → LeadsTo self.now.instances (step_from pb.0 mode child instance) n → ⊥) (λ n. LeadsTo self.now.instances (step_from pb.0 mode child instance) n.0) }
+        ensures { MatchOption result ((n : ℕ) → LeadsTo self.now.instances
+            (step_from pb.0 mode child instance) n → ⊥)
+            (λ n. LeadsTo self.now.instances (step_from pb.0 mode child instance) n.0) }
     {
         let step = Step {
             parent: pb,
@@ -159,7 +161,8 @@ impl PbGraph {
     /// The pin of a bit of a port of an instance.
     pub fn pin_of(&self, pb: PbIx, port: u32, bit: u32) -> Option<PinIx>
         requires { pb.0 < length self.now.instances }
-        ensures { MatchOption result (IsPin self.now pb.0 port bit → ⊥) (λ n. slice_get self.now.pins n.0 ≡ Some (pin_at pb.0 port bit)) }
+        ensures { MatchOption result (IsPin self.now pb.0 port bit → ⊥)
+            (λ n. slice_get self.now.pins n.0 ≡ Some (pin_at pb.0 port bit)) }
     {
         let place = place_of_pin(&self.pins, PinAt { pb, port, bit })?;
         Some(PinIx(place as u32))
@@ -188,7 +191,8 @@ impl PbGraph {
     /// The instance and the mode that have an edge.
     pub fn mode_of_edge(&self, edge: EdgeIx) -> (PbIx, u32)
         requires { edge.0 < length self.now.edges }
-        ensures is { IfSome (slice_get self.now.edges edge.0) (λ e. (result.0 ≡ e.owner) × (result.1 ≡ e.mode)) }
+        ensures is { IfSome (slice_get self.now.edges edge.0)
+            (λ e. (result.0 ≡ e.owner) × (result.1 ≡ e.mode)) }
         ensures inside { result.0.0 < length self.now.instances }
     {
         let Edge { owner, mode, .. } = self.edge(edge);
@@ -225,7 +229,8 @@ impl PbGraph {
     /// The number of a pin of a mode of an instance, as the pin words of the mode name it.
     pub fn pin_of_local(&self, owner: PbIx, mode: u32, pin: LocalPin) -> Option<PinIx>
         requires { owner.0 < length self.now.instances }
-        ensures { MatchOption result ((n : ℕ) → IsLocalPin self.now owner.0 mode pin n → ⊥) (λ n. IsLocalPin self.now owner.0 mode pin n.0) }
+        ensures { MatchOption result ((n : ℕ) → IsLocalPin self.now owner.0 mode pin n → ⊥)
+            (λ n. IsLocalPin self.now owner.0 mode pin n.0) }
     {
         self.law();
         self.keeps();
@@ -250,11 +255,12 @@ impl PbGraph {
         }
     }
 
-    /// The first instance of the same pb_type, which stands for all of them: whoever keeps something
-    /// per pb_type keeps it there.
+    /// The first instance of the same pb_type, which stands for all of them: whoever keeps
+    /// something per pb_type keeps it there.
     pub fn first_like(&self, pb: PbIx) -> PbIx
         requires { pb.0 < length self.now.instances }
-        ensures first { IfSome (slice_get self.now.instances pb.0) (λ a. slice_get self.now.instances result.0 ≡ Some (first_address a)) }
+        ensures first { IfSome (slice_get self.now.instances pb.0)
+            (λ a. slice_get self.now.instances result.0 ≡ Some (first_address a)) }
         ensures same { block_at self.now result.0 ≡ block_at self.now pb.0 }
     {
         self.firsts[pb.0 as usize]
@@ -295,7 +301,8 @@ impl PbGraph {
     /// The interconnect that gives an edge.
     pub fn inter_of(&self, edge: EdgeIx) -> &Inter
         requires { edge.0 < length self.now.edges }
-        ensures { IfSome (slice_get self.now.edges edge.0) (λ e. inter_of self.now e ≡ Some result.now) }
+        ensures { IfSome (slice_get self.now.edges edge.0)
+            (λ e. inter_of self.now e ≡ Some result.now) }
     {
         self.law();
         let Edge {
@@ -344,7 +351,8 @@ pub fn expand(alloc: Global, arch: &Arch, block: u32) -> Result<PbGraph, ExpandE
     ensures root { IfOk result (λ g. slice_get arch.now.blocks block ≡ Some g.root) }
     ensures sound { IfOk result (λ g. AreSound (modes_in_tree g.root)) }
     ensures fits { IfOk result (λ g. IsTooLarge g.root → ⊥) }
-    ensures refused { IfErr result (λ e. (root : PbType) → slice_get arch.now.blocks block ≡ Some root → IsRefusal root e) }
+    ensures refused { IfErr result (λ e. (root : PbType) → slice_get arch.now.blocks block ≡ Some
+        root → IsRefusal root e) }
 {
     graph_of(alloc, &arch.blocks.as_slice()[block as usize], block)
 }
@@ -381,14 +389,16 @@ pub fn graph_of(alloc: Global, root: &PbType, block: u32) -> Result<PbGraph, Exp
 
 /// The row that is this step.
 pub(crate) fn place_of_step(rows: &IndexSet<Step>, step: Step) -> Option<usize>
-    ensures { MatchOption result ((k : ℕ) → slice_get rows.now.keys k ≡ Some step → ⊥) (λ k. slice_get rows.now.keys k ≡ Some step) }
+    ensures { MatchOption result ((k : ℕ) → slice_get rows.now.keys k ≡ Some step → ⊥)
+        (λ k. slice_get rows.now.keys k ≡ Some step) }
 {
     rows.get_index_of(&step)
 }
 
 /// The place of this pin.
 pub(crate) fn place_of_pin(pins: &IndexSet<PinAt>, pin: PinAt) -> Option<usize>
-    ensures { MatchOption result ((k : ℕ) → slice_get pins.now.keys k ≡ Some pin → ⊥) (λ k. slice_get pins.now.keys k ≡ Some pin) }
+    ensures { MatchOption result ((k : ℕ) → slice_get pins.now.keys k ≡ Some pin → ⊥)
+        (λ k. slice_get pins.now.keys k ≡ Some pin) }
 {
     pins.get_index_of(&pin)
 }
@@ -409,8 +419,10 @@ pub(crate) fn child_below(block: &PbType, step: Step) -> &PbType
 
 /// An interconnect of a mode of a block.
 fn inter_at(block: &PbType, mode: u32, inter: u32) -> &Inter
-    requires { IsSome (option_and_then (λ m. slice_get (inters_of m) inter) (slice_get (modes_of block.now.kind) mode)) }
-    ensures { option_and_then (λ m. slice_get (inters_of m) inter) (slice_get (modes_of block.now.kind) mode) ≡ Some result.now }
+    requires { IsSome (option_and_then (λ m. slice_get (inters_of m) inter)
+        (slice_get (modes_of block.now.kind) mode)) }
+    ensures { option_and_then (λ m. slice_get (inters_of m) inter)
+        (slice_get (modes_of block.now.kind) mode) ≡ Some result.now }
 {
     let mode: &Mode = &modes_in(block)[mode as usize];
     &mode.inters.as_slice()[inter as usize]

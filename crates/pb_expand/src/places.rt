@@ -24,7 +24,7 @@ const MOST_PINS: usize = 1048576;
 
 /// The instances and pins of a block type by number.
 #[derive(Drop)]
-pub(crate) struct Places<'a> {
+pub(crate) struct GraphRows<'a> {
     pub blocks: Vec<&'a PbType>,
     /// For each instance one of the same pb_type: the first of them, which stands for itself.
     pub firsts: Vec<PbIx>,
@@ -33,13 +33,18 @@ pub(crate) struct Places<'a> {
     pub pins: IndexSet<PinAt>,
 }
 
-impl Places<'_> {
+impl GraphRows<'_> {
     /// The instances, the pins, the first instances and the shapes, without the pb_types that they
     /// were made from.
     pub fn into_parts(self) -> (IndexSet<Step>, IndexSet<PinAt>, Vec<PbIx>, Vec<Shape>)
-        ensures { result ≡ (self.entry.rows, self.entry.pins, self.entry.firsts, self.entry.shapes) }
+        ensures { result ≡ (
+          self.entry.rows,
+          self.entry.pins,
+          self.entry.firsts,
+          self.entry.shapes,
+        ) }
     {
-        let Places {
+        let GraphRows {
             blocks: _,
             firsts,
             shapes,
@@ -51,17 +56,19 @@ impl Places<'_> {
 }
 
 /// Numbers the instances and pins of a block type.
-pub(crate) fn places_of(alloc: Global, root: &PbType) -> Result<Places<'_>, SizeError>
+pub(crate) fn places_of(alloc: Global, root: &PbType) -> Result<GraphRows<'_>, SizeError>
     ensures tree { IfOk result (λ p. IsTree p.rows.keys) }
     ensures instances { IfOk result (λ p. addresses p.rows.keys ≡ instances_of root.now) }
-    ensures blocks { IfOk result (λ p. AreBlocks root.now (instances_of root.now) (map (λ b. b.now) p.blocks.items)) }
+    ensures blocks { IfOk result (λ p. AreBlocks root.now (instances_of root.now)
+        (map (λ b. b.now) p.blocks.items)) }
     ensures short { IfOk result (λ p. AreShort (map (λ b. b.now) p.blocks.items)) }
     ensures firsts { IfOk result (λ p. AreFirsts (instances_of root.now) p.firsts.items) }
     ensures shapes { IfOk result (λ p. AreShapes (map (λ b. b.now) p.blocks.items) p.shapes.items) }
     ensures pins { IfOk result (λ p. p.pins.keys ≡ pins_of root.now) }
     ensures few_rows { IfOk result (λ p. length p.rows.keys ≤ 1048575) }
     ensures few_pins { IfOk result (λ p. length p.pins.keys ≤ 1048576) }
-    ensures many { IsErrOf result SizeError.TooMany → (1048576 < length (instances_of root.now)) ⊎ (1048576 < length (pins_of root.now)) }
+    ensures many { IsErrOf result SizeError.TooMany → (1048576 < length (instances_of root.now))
+        ⊎ (1048576 < length (pins_of root.now)) }
 {
     let mut rows = Vec::new(alloc);
     push_below(&mut rows, PbIx(0), root)?;
@@ -71,7 +78,7 @@ pub(crate) fn places_of(alloc: Global, root: &PbType) -> Result<Places<'_>, Size
     let row_set = set_of(alloc, rows.as_slice())?;
     let firsts = firsts_of(alloc, root, &row_set)?;
     let shapes = shapes_of(alloc, blocks.as_slice())?;
-    Ok(Places {
+    Ok(GraphRows {
         blocks,
         firsts,
         shapes,
@@ -88,7 +95,8 @@ fn blocks_of<'a>(
 ) -> Result<Vec<&'a PbType>, AllocError>
     requires tree { IsTree rows.now }
     requires instances { addresses rows.now ≡ instances_of root.now }
-    ensures blocks { IfOk result (λ bs. AreBlocks root.now (instances_of root.now) (map (λ b. b.now) bs.items)) }
+    ensures blocks { IfOk result (λ bs. AreBlocks root.now (instances_of root.now)
+        (map (λ b. b.now) bs.items)) }
     ensures short { IfOk result (λ bs. AreShort (map (λ b. b.now) bs.items)) }
 {
     let mut blocks = Vec::new(alloc);
@@ -103,7 +111,8 @@ fn blocks_of<'a>(
 /// Adds a pb_type whose modes and ports can be numbered.
 fn push_block<'a>(blocks: &mut Vec<&'a PbType>, block: &'a PbType) -> Result<(), AllocError>
     requires { AreShort (map (λ b. b.now) blocks.old.items) }
-    ensures added { OnOk result (map (λ b. b.now) blocks.new.items ≡ map (λ b. b.now) blocks.old.items ++ block.now ∷ []) }
+    ensures added { OnOk result (map (λ b. b.now) blocks.new.items ≡ map (λ b. b.now)
+        blocks.old.items ++ block.now ∷ []) }
     ensures short { OnOk result (AreShort (map (λ b. b.now) blocks.new.items)) }
 {
     let _ = short(modes_in(block))?;
@@ -138,7 +147,8 @@ fn pins_of_blocks(alloc: Global, blocks: &[&PbType]) -> Result<Vec<PinAt>, SizeE
     requires { length blocks.now ≤ 1048576 }
     ensures pins { IfOk result (λ ps. ps.items ≡ pins_over 0 (map (λ b. b.now) blocks.now)) }
     ensures few { IfOk result (λ ps. length ps.items ≤ 1048576) }
-    ensures many { IsErrOf result SizeError.TooMany → 1048576 < length (pins_over 0 (map (λ b. b.now) blocks.now)) }
+    ensures many { IsErrOf result SizeError.TooMany → 1048576 < length
+        (pins_over 0 (map (λ b. b.now) blocks.now)) }
 {
     let mut pins = Vec::new(alloc);
     for (pb, block) in blocks.iter().enumerate() {
@@ -150,9 +160,11 @@ fn pins_of_blocks(alloc: Global, blocks: &[&PbType]) -> Result<Vec<PinAt>, SizeE
 /// Adds the pins of an instance.
 fn push_ports(pins: &mut Vec<PinAt>, pb: PbIx, ports: &[Port]) -> Result<(), SizeError>
     requires { length ports.now < 2 ^ 32 }
-    ensures added { OnOk result (pins.new.items ≡ pins.old.items ++ pins_of_ports pb.0 0 ports.now) }
+    ensures added { OnOk result (pins.new.items ≡ pins.old.items ++ pins_of_ports pb.0 0
+        ports.now) }
     ensures few { OnOk result (length pins.old.items ≤ 1048576 → length pins.new.items ≤ 1048576) }
-    ensures many { IsErrOf result SizeError.TooMany → 1048576 < length pins.old.items + length (pins_of_ports pb.0 0 ports.now) }
+    ensures many { IsErrOf result SizeError.TooMany → 1048576 < length pins.old.items + length
+        (pins_of_ports pb.0 0 ports.now) }
 {
     for (port, is) in ports.iter().enumerate() {
         push_bits(pins, pb, port as u32, is.width)?;
@@ -162,7 +174,8 @@ fn push_ports(pins: &mut Vec<PinAt>, pb: PbIx, ports: &[Port]) -> Result<(), Siz
 
 /// Adds the pins of a port.
 fn push_bits(pins: &mut Vec<PinAt>, pb: PbIx, port: u32, width: u32) -> Result<(), SizeError>
-    ensures added { OnOk result (pins.new.items ≡ pins.old.items ++ map (pin_at pb.0 port) (up_from 0 width)) }
+    ensures added { OnOk result (pins.new.items ≡ pins.old.items ++ map (pin_at pb.0 port)
+        (up_from 0 width)) }
     ensures few { OnOk result (length pins.old.items ≤ 1048576 → length pins.new.items ≤ 1048576) }
     ensures many { IsErrOf result SizeError.TooMany → 1048576 < length pins.old.items + width }
 {
@@ -177,7 +190,8 @@ fn push_bits(pins: &mut Vec<PinAt>, pb: PbIx, port: u32, width: u32) -> Result<(
 
 /// The set of these items, each at its place in the list.
 fn set_of<T: Copy + Eq + Hash + Drop>(alloc: Global, items: &[T]) -> Result<IndexSet<T>, AllocError>
-    requires { (i j : ℕ) (x y : T) → slice_get items.now i ≡ Some x → slice_get items.now j ≡ Some y → T.eq x y ≡ true → i ≡ j }
+    requires { (i j : ℕ) (x y : T) → slice_get items.now i ≡ Some x → slice_get items.now j ≡ Some y
+        → T.eq x y ≡ true → i ≡ j }
     ensures { IfOk result (λ s. s.keys ≡ items.now) }
 {
     let mut set = IndexSet::new(alloc);

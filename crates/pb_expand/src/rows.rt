@@ -42,9 +42,11 @@ fn push_copy(rows: &mut Vec<Step>, own: Step, other: PbIx, end: usize) -> Result
     requires tree { IsTree rows.old.items }
     requires there { other.0 ≤ end }
     requires inside { end ≤ length rows.old.items }
-    ensures added { OnOk result (rows.new.items ≡ rows.old.items ++ own ∷ map (moved (length rows.old.items + 1 - other.0)) (drop other.0 (take end rows.old.items))) }
+    ensures added { OnOk result (rows.new.items ≡ rows.old.items ++ own ∷ map
+        (moved (length rows.old.items + 1 - other.0)) (drop other.0 (take end rows.old.items))) }
     ensures few { OnOk result (length rows.new.items ≤ 1048575) }
-    ensures many { IsErrOf result SizeError.TooMany → 1048575 < length rows.old.items + 1 + (end - other.0) }
+    ensures many { IsErrOf result SizeError.TooMany → 1048575 < length rows.old.items + 1
+        + (end - other.0) }
 {
     let number = push_row(rows, own)?;
     let further = number.0 - other.0;
@@ -68,9 +70,13 @@ fn push_copies(rows: &mut Vec<Step>, step: Step, first: PbIx, kid: &PbType) -> R
     requires first { EndsWith rows.old.items step first.0 kid.now.kind }
     ensures tree { OnOk result (IsTree rows.new.items) }
     ensures behind { OnOk result (GoesOn rows.old.items rows.new.items step.parent.0) }
-    ensures added { OnOk result (addresses rows.new.items ≡ addresses rows.old.items ++ copies (λ a. below kid.now.kind a) step.mode step.child 1 (kid.now.count - 1) (slice_index_or (addresses rows.old.items) step.parent.0 [])) }
+    ensures added { OnOk result (addresses rows.new.items ≡ addresses rows.old.items ++ copies
+        (λ a. below kid.now.kind a) step.mode step.child 1 (kid.now.count - 1)
+        (slice_index_or (addresses rows.old.items) step.parent.0 [])) }
     ensures few { OnOk result (length rows.old.items ≤ 1048575 → length rows.new.items ≤ 1048575) }
-    ensures many { IsErrOf result SizeError.TooMany → 1048575 < length rows.old.items + length (copies (λ a. below kid.now.kind a) step.mode step.child 1 (kid.now.count - 1) (slice_index_or (addresses rows.old.items) step.parent.0 [])) }
+    ensures many { IsErrOf result SizeError.TooMany → 1048575 < length rows.old.items + length
+        (copies (λ a. below kid.now.kind a) step.mode step.child 1 (kid.now.count - 1)
+        (slice_index_or (addresses rows.old.items) step.parent.0 [])) }
 {
     let end = rows.len();
     for instance in 1..kid.count {
@@ -92,9 +98,11 @@ pub(crate) fn push_below(rows: &mut Vec<Step>, here: PbIx, block: &PbType) -> Re
     requires there { here.0 ≤ length rows.old.items }
     ensures tree { OnOk result (IsTree rows.new.items) }
     ensures behind { OnOk result (GoesOn rows.old.items rows.new.items here.0) }
-    ensures added { OnOk result (addresses rows.new.items ≡ addresses rows.old.items ++ below block.now.kind (slice_index_or (addresses rows.old.items) here.0 [])) }
+    ensures added { OnOk result (addresses rows.new.items ≡ addresses rows.old.items ++ below
+        block.now.kind (slice_index_or (addresses rows.old.items) here.0 [])) }
     ensures few { OnOk result (length rows.old.items ≤ 1048575 → length rows.new.items ≤ 1048575) }
-    ensures many { IsErrOf result SizeError.TooMany → 1048575 < length rows.old.items + length (below block.now.kind (slice_index_or (addresses rows.old.items) here.0 [])) }
+    ensures many { IsErrOf result SizeError.TooMany → 1048575 < length rows.old.items + length
+        (below block.now.kind (slice_index_or (addresses rows.old.items) here.0 [])) }
 {
     match &block.kind {
         Kind::InPad | Kind::OutPad | Kind::Lut | Kind::Latch | Kind::Cell(_) => {}

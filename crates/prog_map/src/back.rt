@@ -17,7 +17,8 @@ pub fn follow(graph: &PbGraph, prog: &Prog, live: &[bool], pin: PinIx) -> Option
     requires inside { pin.0 < length graph.now.pins }
     requires of { IsProgOf graph.now prog.now }
     requires live { AreLive graph.now (mode_of prog.now) live.now }
-    ensures exact { MatchOption result ((p : ℕ) → StepsBack graph.now prog.now pin.0 p → ⊥) (λ p. StepsBack graph.now prog.now pin.0 p.0) }
+    ensures exact { MatchOption result ((p : ℕ) → StepsBack graph.now prog.now pin.0 p → ⊥)
+        (λ p. StepsBack graph.now prog.now pin.0 p.0) }
     ensures inside { IfSome result (λ p. p.0 < length graph.now.pins) }
 {
     if let Some(source) = step_by_edge(graph, prog, live, pin) {
@@ -31,7 +32,8 @@ fn step_by_edge(graph: &PbGraph, prog: &Prog, live: &[bool], pin: PinIx) -> Opti
     requires inside { pin.0 < length graph.now.pins }
     requires of { IsProgOf graph.now prog.now }
     requires live { AreLive graph.now (mode_of prog.now) live.now }
-    ensures exact { MatchOption result ((p : ℕ) → StepsByEdge graph.now prog.now pin.0 p → ⊥) (λ p. StepsByEdge graph.now prog.now pin.0 p.0) }
+    ensures exact { MatchOption result ((p : ℕ) → StepsByEdge graph.now prog.now pin.0 p → ⊥)
+        (λ p. StepsByEdge graph.now prog.now pin.0 p.0) }
     ensures inside { IfSome result (λ p. p.0 < length graph.now.pins) }
 {
     graph.law();
@@ -50,7 +52,8 @@ fn step_in(graph: &PbGraph, prog: &Prog, live: &[bool], pin: PinIx, owner: PbIx)
     requires inside { owner.0 < length graph.now.instances }
     requires of { IsProgOf graph.now prog.now }
     requires live { AreLive graph.now (mode_of prog.now) live.now }
-    ensures exact { MatchOption result ((p : ℕ) → StepsBackIn graph.now prog.now owner.0 pin.0 p → ⊥) (λ p. StepsBackIn graph.now prog.now owner.0 pin.0 p.0) }
+    ensures exact { MatchOption result ((p : ℕ) → StepsBackIn graph.now prog.now owner.0 pin.0 p
+        → ⊥) (λ p. StepsBackIn graph.now prog.now owner.0 pin.0 p.0) }
     ensures inside { IfSome result (λ p. p.0 < length graph.now.pins) }
 {
     let mode = prog.mode_of(owner)?;
@@ -69,7 +72,8 @@ fn step_in(graph: &PbGraph, prog: &Prog, live: &[bool], pin: PinIx, owner: PbIx)
 fn step_through(graph: &PbGraph, prog: &Prog, live: &[bool], pin: PinIx) -> Option<PinIx>
     requires inside { pin.0 < length graph.now.pins }
     requires live { AreLive graph.now (mode_of prog.now) live.now }
-    ensures exact { MatchOption result ((p : ℕ) → StepsThrough graph.now prog.now pin.0 p → ⊥) (λ p. StepsThrough graph.now prog.now pin.0 p.0) }
+    ensures exact { MatchOption result ((p : ℕ) → StepsThrough graph.now prog.now pin.0 p → ⊥)
+        (λ p. StepsThrough graph.now prog.now pin.0 p.0) }
     ensures inside { IfSome result (λ p. p.0 < length graph.now.pins) }
 {
     graph.law();
@@ -90,7 +94,8 @@ fn step_through(graph: &PbGraph, prog: &Prog, live: &[bool], pin: PinIx) -> Opti
 
 /// Which of its inputs a LUT passes on.
 fn passed_by(prog: &Prog, pb: PbIx) -> Option<u32>
-    ensures { MatchOption result ((input : ℕ) → lut_of prog.now pb.0 ≡ Some (Wire input) → ⊥) (λ input. lut_of prog.now pb.0 ≡ Some (Wire input)) }
+    ensures { MatchOption result ((input : ℕ) → lut_of prog.now pb.0 ≡ Some (Wire input) → ⊥)
+        (λ input. lut_of prog.now pb.0 ≡ Some (Wire input)) }
 {
     match prog.lut(pb)? {
         LutChoice::Wire(input) => Some(*input),

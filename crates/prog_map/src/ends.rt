@@ -6,13 +6,14 @@ ghost use Rattle.prog_map.specs.Ends.{Leads, StayInside, AreSettled, AreOpen, Is
 
 use std::alloc::{AllocError, Global};
 
-/// Where the walk from each node ends, where a node leads to one other at most: at one that leads to
-/// none, or before a node would stand in the walk a second time. Each node is walked over once.
+/// Where the walk from each node ends, where a node leads to one other at most: at one that leads
+/// to none, or before a node would stand in the walk a second time. Each node is walked over once.
 pub(crate) fn ends_of(alloc: Global, steps: &[Option<u32>]) -> Result<Vec<u32>, AllocError>
     requires inside { StayInside steps.now }
     requires few { length steps.now < 2 ^ 32 }
     ensures all { IfOk result (λ last. length last.items ≡ length steps.now) }
-    ensures last { IfOk result (λ last. (node end : ℕ) → slice_get last.items node ≡ Some end → IsLast (Leads steps.now) node end) }
+    ensures last { IfOk result (λ last. (node end : ℕ) → slice_get last.items node ≡ Some end
+        → IsLast (Leads steps.now) node end) }
 {
     let mut met = vec![in alloc; false; steps.len()]?;
     let mut last = vec![in alloc; 0; steps.len()]?;
@@ -41,7 +42,8 @@ fn settle_from(
     requires settled { AreSettled steps.now met.old last.old }
     ensures settled { OnOk result (AreSettled steps.now met.new last.new) }
     ensures met { OnOk result (slice_get met.new start ≡ Some true) }
-    ensures kept { OnOk result ((node : ℕ) → slice_get met.old node ≡ Some true → slice_get met.new node ≡ Some true) }
+    ensures kept { OnOk result ((node : ℕ) → slice_get met.old node ≡ Some true → slice_get met.new
+        node ≡ Some true) }
 {
     if met[start as usize] {
         return Ok(());
@@ -68,7 +70,8 @@ fn walk_from(
     requires inside { StayInside steps.now }
     requires marks { length met.old ≡ length steps.now }
     requires start { slice_get met.old start ≡ Some false }
-    ensures walked { IfOk result (λ walk. IsWalked steps.now met.old met.new start walk.end walk.nodes.items) }
+    ensures walked { IfOk result (λ walk. IsWalked steps.now met.old met.new start walk.end
+        walk.nodes.items) }
     ensures ends { IfOk result (λ walk. EndsAt steps.now met.new walk.end) }
 {
     let mut nodes = Vec::new(alloc);
@@ -88,7 +91,8 @@ fn unmet(steps: &[Option<u32>], met: &[bool], node: u32) -> Option<u32>
     requires inside { StayInside steps.now }
     requires marks { length met.now ≡ length steps.now }
     requires node { node < length steps.now }
-    ensures ends { MatchOption result (EndsAt steps.now met.now node) (λ next. Leads steps.now node next) }
+    ensures ends { MatchOption result (EndsAt steps.now met.now node)
+        (λ next. Leads steps.now node next) }
     ensures unmet { MatchOption result (Unit {0}) (λ next. slice_get met.now next ≡ Some false) }
 {
     match steps[node as usize] {
@@ -150,7 +154,8 @@ fn turn(last: &mut [u32], nodes: &[u32], end: u32)
 
 /// The place of a node in a list.
 fn place_of(nodes: &[u32], node: u32) -> Option<usize>
-    ensures { MatchOption result (Has nodes.now node → ⊥) (λ at. slice_get nodes.now at ≡ Some node) }
+    ensures { MatchOption result (Has nodes.now node → ⊥)
+        (λ at. slice_get nodes.now at ≡ Some node) }
 {
     for (at, here) in nodes.iter().enumerate() {
         if *here == node {

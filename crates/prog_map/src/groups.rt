@@ -30,7 +30,8 @@ impl Groups {
 
     /// Adds a number to those of a mode.
     pub(crate) fn push(&mut self, alloc: Global, at: ModeAt, number: u32) -> Result<(), AllocError>
-        ensures { OnOk result (GetsNumber self.old.numbers self.new.numbers (λ pb mode. same_mode at (mode_ix pb mode)) number) }
+        ensures { OnOk result (GetsNumber self.old.numbers self.new.numbers
+            (λ pb mode. same_mode at (mode_ix pb mode)) number) }
     {
         push_number(alloc, &mut self.numbers, at, number)
     }
@@ -53,7 +54,8 @@ fn push_number(
     at: ModeAt,
     number: u32,
 ) -> Result<(), AllocError>
-    ensures { OnOk result (GetsNumber groups.old groups.new (λ pb mode. same_mode at (mode_ix pb mode)) number) }
+    ensures { OnOk result (GetsNumber groups.old groups.new
+        (λ pb mode. same_mode at (mode_ix pb mode)) number) }
 {
     match groups.get_mut(&at) {
         Some(numbers) => {

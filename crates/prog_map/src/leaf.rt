@@ -16,7 +16,8 @@ pub struct Inputs {
 /// The inputs of a LUT; nothing where the instance is none, or reads through no port.
 pub fn inputs_of(graph: &PbGraph, pb: PbIx) -> Option<Inputs>
     requires { pb.0 < length graph.now.instances }
-    ensures inputs { MatchOption result ((port width : ℕ) → AreInputs graph.now pb.0 port width → ⊥) (λ inputs. AreInputs graph.now pb.0 inputs.port inputs.width) }
+    ensures inputs { MatchOption result ((port width : ℕ) → AreInputs graph.now pb.0 port width → ⊥)
+        (λ inputs. AreInputs graph.now pb.0 inputs.port inputs.width) }
     ensures narrow { IfSome result (λ inputs. inputs.width < 2 ^ 32) }
 {
     if !is_lut(graph, pb) {
@@ -53,7 +54,8 @@ pub fn is_leaf(graph: &PbGraph, pb: PbIx) -> bool
 
 /// The place of the first input port.
 fn first_input(ports: &[Port]) -> Option<usize>
-    ensures place { MatchOption result ((place : ℕ) → slice_get (sides_of ports.now) place ≡ Some Input → ⊥) (IsFirstPlace (sides_of ports.now) Input) }
+    ensures place { MatchOption result ((place : ℕ) → slice_get (sides_of ports.now) place ≡ Some
+        Input → ⊥) (IsFirstPlace (sides_of ports.now) Input) }
     ensures inside { IfSome result (λ place. place < length ports.now) }
 {
     for (place, port) in ports.iter().enumerate() {

@@ -56,7 +56,8 @@ pub(crate) fn lives(graph: &PbGraph, prog: &Prog, live: &[bool], pb: PbIx) -> bo
 /// does nothing.
 pub fn live_laws(graph: &PbGraph)
     ensures root { (modes : ℕ → Option ℕ) → IsLiveAt graph.now modes 0 }
-    ensures below { (modes : ℕ → Option ℕ) (s : Step) (n : ℕ) → LeadsTo graph.now.instances s n → IsLiveBelow graph.now modes s n }
+    ensures below { (modes : ℕ → Option ℕ) (s : Step) (n : ℕ) → LeadsTo graph.now.instances s n
+        → IsLiveBelow graph.now modes s n }
 {
     graph.law();
 }

@@ -35,8 +35,10 @@ impl Order {
 
 /// The instances by the mode in which they stand.
 fn kids_of(alloc: Global, graph: &PbGraph) -> Result<Groups, AllocError>
-    ensures kids { IfOk result (λ groups. (pb mode : ℕ) → grouped groups.numbers pb mode ≡ kids graph.now pb mode) }
-    ensures parents { OnOk result ((pb : ℕ) → pb < length graph.now.instances → HasParent graph.now pb) }
+    ensures kids { IfOk result (λ groups. (pb mode : ℕ) → grouped groups.numbers pb mode ≡ kids
+        graph.now pb mode) }
+    ensures parents { OnOk result ((pb : ℕ) → pb < length graph.now.instances → HasParent graph.now
+        pb) }
 {
     let mut groups = Groups::new(alloc);
     for pb in 0..graph.pbs() {
@@ -48,7 +50,8 @@ fn kids_of(alloc: Global, graph: &PbGraph) -> Result<Groups, AllocError>
 /// Adds an instance to those of the mode in which it stands; the root stands in none.
 fn push_kid(alloc: Global, groups: &mut Groups, graph: &PbGraph, pb: PbIx) -> Result<(), AllocError>
     requires { pb.0 < length graph.now.instances }
-    ensures number { OnOk result (GetsNumber groups.old.numbers groups.new.numbers (hangs_at graph.now pb.0) pb.0) }
+    ensures number { OnOk result (GetsNumber groups.old.numbers groups.new.numbers
+        (hangs_at graph.now pb.0) pb.0) }
     ensures parent { HasParent graph.now pb.0 }
 {
     graph.law();
@@ -66,7 +69,8 @@ fn push_kid(alloc: Global, groups: &mut Groups, graph: &PbGraph, pb: PbIx) -> Re
 
 /// The first edges into pins by their mode.
 fn firsts_of(alloc: Global, graph: &PbGraph) -> Result<Groups, AllocError>
-    ensures { IfOk result (λ groups. (pb mode : ℕ) → grouped groups.numbers pb mode ≡ first_edges graph.now pb mode) }
+    ensures { IfOk result (λ groups. (pb mode : ℕ) → grouped groups.numbers pb mode ≡ first_edges
+        graph.now pb mode) }
 {
     let mut groups = Groups::new(alloc);
     for edge in 0..graph.edges() {
@@ -83,7 +87,8 @@ fn push_first(
     number: EdgeIx,
 ) -> Result<(), AllocError>
     requires { number.0 < length graph.now.edges }
-    ensures { OnOk result (GetsNumber groups.old.numbers groups.new.numbers (opens_at graph.now number.0) number.0) }
+    ensures { OnOk result (GetsNumber groups.old.numbers groups.new.numbers
+        (opens_at graph.now number.0) number.0) }
 {
     let edge = graph.edge(number);
     if !begins_with(graph.edges_into(edge.dst, edge.mode), number) {

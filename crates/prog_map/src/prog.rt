@@ -13,8 +13,8 @@ use std::collections::{BTreeMap, BTreeSet};
 use std::marker::Model;
 
 /// A programming of one block type: a finite map from its sites to choices. A site is the mode of
-/// an instance, a pin in one mode, whose choice is an edge into it, the use of a leaf, or what a LUT
-/// holds; a site without a choice is off.
+/// an instance, a pin in one mode, whose choice is an edge into it, the use of a leaf, or what a
+/// LUT holds; a site without a choice is off.
 #[derive(Drop)]
 pub struct Prog {
     modes: BTreeMap<u32, u32>,
@@ -118,18 +118,20 @@ impl Prog {
     /// Sets an instance to a mode. A programming of a graph stays one where the graph has the mode.
     pub fn set_mode(&mut self, pb: PbIx, mode: u32) -> Result<(), AllocError>
         ensures ok { OnOk result (self.new ≡ with_mode self.old pb.0 mode) }
-        ensures of { (g : Graph) → IsProgOf g self.old → IsModeOf g pb.0 mode → IsProgOf g self.new }
+        ensures of { (g : Graph) → IsProgOf g self.old → IsModeOf g pb.0 mode → IsProgOf g
+            self.new }
         ensures err { OnErr result (self.new ≡ self.old) }
     {
         self.modes.insert(pb.0, mode)?;
         Ok(())
     }
 
-    /// Lets a pin take an edge in a mode. A programming of a graph stays one where the edge leads into
-    /// the pin in that mode.
+    /// Lets a pin take an edge in a mode. A programming of a graph stays one where the edge leads
+    /// into the pin in that mode.
     pub fn set_edge(&mut self, pin: PinIx, mode: u32, edge: EdgeIx) -> Result<(), AllocError>
         ensures ok { OnOk result (self.new ≡ with_pick self.old pin.0 mode edge.0) }
-        ensures of { (g : Graph) → IsProgOf g self.old → IsEdgeInto g pin.0 mode edge.0 → IsProgOf g self.new }
+        ensures of { (g : Graph) → IsProgOf g self.old → IsEdgeInto g pin.0 mode edge.0 → IsProgOf g
+            self.new }
         ensures err { OnErr result (self.new ≡ self.old) }
     {
         self.picks.insert((pin.0, mode), edge.0)?;
@@ -146,10 +148,12 @@ impl Prog {
         Ok(())
     }
 
-    /// Lets a LUT hold a choice. A programming of a graph stays one where the choice is one of the LUT.
+    /// Lets a LUT hold a choice. A programming of a graph stays one where the choice is one of the
+    /// LUT.
     pub fn set_lut(&mut self, pb: PbIx, choice: LutChoice) -> Result<(), AllocError>
         ensures ok { OnOk result (self.new ≡ with_lut self.old pb.0 choice) }
-        ensures of { (g : Graph) → IsProgOf g self.old → IsLutChoice g pb.0 choice → IsProgOf g self.new }
+        ensures of { (g : Graph) → IsProgOf g self.old → IsLutChoice g pb.0 choice → IsProgOf g
+            self.new }
         ensures err { OnErr result (self.new ≡ self.old) }
     {
         self.luts.insert(pb.0, choice)?;

@@ -17,9 +17,9 @@ use pb_expand::{EdgeIx, PbGraph, PbIx, PbKind};
 use sqlite_items::Items;
 use std::alloc::{AllocError, Global};
 
-/// The sites of a block type in their order: of an instance its mode, and then mode by mode the pins
-/// in that mode, by the first edge into each, and the instances in it with what is below them; of a
-/// leaf its use, and then what it holds if it is a LUT. It has exactly the sites, each once,
+/// The sites of a block type in their order: of an instance its mode, and then mode by mode the
+/// pins in that mode, by the first edge into each, and the instances in it with what is below them;
+/// of a leaf its use, and then what it holds if it is a LUT. It has exactly the sites, each once,
 /// and sites under one choice stand together.
 pub fn sites_of(alloc: Global, graph: &PbGraph) -> Result<Items<LSite>, AllocError>
     ensures order { IfOk result (λ sites. sites ≡ site_order graph.now) }
@@ -73,7 +73,8 @@ fn push_mode(
     levels: u32,
 ) -> Result<(), AllocError>
     requires order { IsOrderOf graph.now order.now }
-    ensures { OnOk result (sites.new ≡ sites.old ++ mode_sites graph.now (λ kid. sites_under graph.now levels kid) pb.0 mode) }
+    ensures { OnOk result (sites.new ≡ sites.old ++ mode_sites graph.now
+        (λ kid. sites_under graph.now levels kid) pb.0 mode) }
 {
     push_ends(sites, graph, order.firsts.of(pb, mode), mode)?;
     for kid in order.kids.of(pb, mode) {

@@ -64,7 +64,8 @@ fn step_number(graph: &PbGraph, prog: &Prog, live: &[bool], pin: PinIx) -> Optio
     requires inside { pin.0 < length graph.now.pins }
     requires of { IsProgOf graph.now prog.now }
     requires live { AreLive graph.now (mode_of prog.now) live.now }
-    ensures exact { MatchOption result ((p : ℕ) → StepsBack graph.now prog.now pin.0 p → ⊥) (λ p. StepsBack graph.now prog.now pin.0 p) }
+    ensures exact { MatchOption result ((p : ℕ) → StepsBack graph.now prog.now pin.0 p → ⊥)
+        (λ p. StepsBack graph.now prog.now pin.0 p) }
     ensures inside { IfSome result (λ p. p < length graph.now.pins) }
 {
     match follow(graph, prog, live, pin) {

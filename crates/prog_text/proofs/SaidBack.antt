@@ -9,7 +9,7 @@ use Rattle.std.proofs.lemmas.Str.{IsUtf8-append}
 use Rattle.std.proofs.lemmas.Option.{slice_get_within}
 use Rattle.std.proofs.lemmas.List.Elements.{All-append, All-cons, All-nil}
 use Rattle.std.proofs.lemmas.Bool.Decides.{nat_tests}
-use Rattle.vtr_base.specs.Spans.{is_dark}
+use Rattle.vtr_base.specs.Spans.{is_word_byte}
 use Rattle.arch_types.specs.Tree.{name_of_mode}
 use Rattle.pb_expand.specs.declared.number.Edge.{Edge}
 use Rattle.pb_expand.specs.Graph.{Graph, edge_ix, pb_ix, pin_ix}
@@ -25,7 +25,7 @@ use Rattle.prog_text.specs.Plain.{HasPlainNames}
 use Rattle.prog_text.specs.Sayings.{IsWord, IsFirstWord, AreWords, Saying, says_mode, says_pin, says_used, says_wire, says_table, WordsSay, Says, is_bit}
 use Rattle.prog_text.specs.Settings.{Names, table_of}
 use Rattle.prog_text.specs.Spelling.{mode_name, edge_text, bit_digit, digits_of, line_of}
-use Rattle.prog_text.proofs.Sound.{IsSound, all_imply, ascii_one, sound_ascii, sound_nil, sound_append, sound_name, sound_decimal, word_of, instance_sound, instance_some, pin_sound, pin_some, mode_named, mode_name_is}
+use Rattle.prog_text.proofs.Sound.{IsSoundText, all_imply, ascii_one, sound_ascii, sound_nil, sound_append, sound_name, sound_decimal, word_of, instance_sound, instance_some, pin_sound, pin_some, mode_named, mode_name_is}
 use Rattle.prog_map.proofs.Instances.{ModeIs, mode_is_there}
 use Rattle.prog_text.proofs.Written.{edge_mode_there}
 use Rattle.prog_text.proofs.Tabled.{table-push}
@@ -33,9 +33,9 @@ use Rattle.prog_text.proofs.Tabled.{table-push}
 -- a word of a line
 pub record IsPlainWord (text : List ℕ) : Type 0 where
   pub word : IsWord text
-  pub sound : IsSound text
+  pub sound : IsSoundText text
 
-pub plain_word : (text : List ℕ) → text ≢ [] → IsSound text → IsPlainWord text
+pub plain_word : (text : List ℕ) → text ≢ [] → IsSoundText text → IsPlainWord text
 plain_word text some sound = record { word = word_of text some sound; sound = sound }
 
 utf8_blank : IsUtf8 (32 ∷ [])
@@ -50,14 +50,14 @@ pub record IsLineText (text : List ℕ) : Type 0 where
   pub kept : AllPass is_kept text
   pub utf8 : IsUtf8 text
 
-pub line_of_sound : (text : List ℕ) → IsSound text → IsLineText text
-line_of_sound text sound = record { kept = all_imply is_dark is_kept text (λ x e. by x e) sound.dark; utf8 = sound.utf8 }
+pub line_of_sound : (text : List ℕ) → IsSoundText text → IsLineText text
+line_of_sound text sound = record { kept = all_imply is_word_byte is_kept text (λ x e. by x e) sound.dark; utf8 = sound.utf8 }
   where
-    by : (x : ℕ) → is_dark x ≡ true → is_kept x ≡ true
+    by : (x : ℕ) → is_word_byte x ≡ true → is_kept x ≡ true
     by x e = grind (arith, nat_tests)
 
 -- a word, a blank and what follows
-pub line_more : (word rest : List ℕ) → IsSound word → IsLineText rest → IsLineText (word ++ 32 ∷ rest)
+pub line_more : (word rest : List ℕ) → IsSoundText word → IsLineText rest → IsLineText (word ++ 32 ∷ rest)
 line_more word rest sound line =
     let first = line_of_sound word sound in
     record {
@@ -103,11 +103,11 @@ word_table : IsPlainWord (codes "table")
 word_table = plain_word (codes "table") (λ e. cc) (sound_ascii 116 _ refl (lit< tt) (sound_ascii 97 _ refl (lit< tt) (sound_ascii 98 _ refl (lit< tt) (sound_ascii 108 _ refl (lit< tt) (sound_ascii 101 _ refl (lit< tt) sound_nil)))))
 
 -- the digits of a table
-one_digit : (b : Bool) → IsSound (bit_digit b ∷ [])
+one_digit : (b : Bool) → IsSoundText (bit_digit b ∷ [])
 one_digit true = sound_ascii 49 [] refl (lit< tt) sound_nil
 one_digit false = sound_ascii 48 [] refl (lit< tt) sound_nil
 
-digits_sound : (t : List Bool) → IsSound (digits_of t)
+digits_sound : (t : List Bool) → IsSoundText (digits_of t)
 digits_sound [] = sound_nil
 digits_sound (b ∷ t) = sound_append (digits_of t) (bit_digit b ∷ []) (digits_sound t) (one_digit b)
 

@@ -12,7 +12,7 @@ use Rattle.std.proofs.lemmas.Str.Parse.{digit_from_value}
 use Rattle.std.proofs.lemmas.Str.Ascii.{IsAscii-from_all}
 use Rattle.std.proofs.lemmas.List.Elements.{All-append, All-cons, All-nil}
 use Rattle.std.proofs.lemmas.Bool.Decides.{nat_tests}
-use Rattle.vtr_base.specs.Spans.{is_white, is_dark}
+use Rattle.vtr_base.specs.Spans.{is_white, is_word_byte}
 use Rattle.arch_types.specs.declared.block.PbType.{PbType}
 use Rattle.arch_types.specs.declared.block.Port.{Port}
 use Rattle.arch_types.specs.declared.block.Mode.{Mode}
@@ -32,33 +32,33 @@ use Rattle.prog_text.specs.Spelling.{mode_name}
 use Rattle.prog_map.proofs.Climbs.{some_injective}
 use Rattle.prog_map.proofs.Instances.{ModeIs, mode_is_there}
 
-pub record IsSound (text : List ℕ) : Type 0 where
-  pub dark : AllPass is_dark text
+pub record IsSoundText (text : List ℕ) : Type 0 where
+  pub dark : AllPass is_word_byte text
   pub utf8 : IsUtf8 text
 
 pub all_imply : (p q : ℕ → Bool) (xs : List ℕ) → ((x : ℕ) → p x ≡ true → q x ≡ true) → AllPass p xs → AllPass q xs
 all_imply p q xs to all k d inside = to (get_or xs k d) (all k d inside)
 
-pub sound_nil : IsSound []
-sound_nil = record { dark = All-nil (λ x. is_dark x ≡ true); utf8 = IsUtf8-nil }
+pub sound_nil : IsSoundText []
+sound_nil = record { dark = All-nil (λ x. is_word_byte x ≡ true); utf8 = IsUtf8-nil }
 
-pub sound_append : (xs ys : List ℕ) → IsSound xs → IsSound ys → IsSound (xs ++ ys)
+pub sound_append : (xs ys : List ℕ) → IsSoundText xs → IsSoundText ys → IsSoundText (xs ++ ys)
 sound_append xs ys a b = record {
-  dark = All-append (λ x. is_dark x ≡ true) xs ys a.dark b.dark;
+  dark = All-append (λ x. is_word_byte x ≡ true) xs ys a.dark b.dark;
   utf8 = IsUtf8-append xs ys a.utf8 b.utf8;
 }
 
 -- one byte of the signs that divide names
-sound_sign : (b : ℕ) → is_dark b ≡ true → IsUtf8 (b ∷ []) → IsSound (b ∷ [])
-sound_sign b dark utf8 = record { dark = All-cons (λ x. is_dark x ≡ true) b [] dark (All-nil (λ x. is_dark x ≡ true)); utf8 = utf8 }
+sound_sign : (b : ℕ) → is_word_byte b ≡ true → IsUtf8 (b ∷ []) → IsSoundText (b ∷ [])
+sound_sign b dark utf8 = record { dark = All-cons (λ x. is_word_byte x ≡ true) b [] dark (All-nil (λ x. is_word_byte x ≡ true)); utf8 = utf8 }
 
-pub sound_cons : (b : ℕ) (xs : List ℕ) → is_dark b ≡ true → IsUtf8 (b ∷ []) → IsSound xs → IsSound (b ∷ xs)
+pub sound_cons : (b : ℕ) (xs : List ℕ) → is_word_byte b ≡ true → IsUtf8 (b ∷ []) → IsSoundText xs → IsSoundText (b ∷ xs)
 sound_cons b xs dark utf8 sound = sound_append (b ∷ []) xs (sound_sign b dark utf8) sound
 
 pub ascii_one : (b : ℕ) → b < 128 → IsUtf8 (b ∷ [])
 ascii_one b low = IsUtf8-from_ascii (b ∷ []) (IsAscii-from_all (b ∷ []) (All-cons (λ x. x < 128) b [] low (All-nil (λ x. x < 128))))
 
-pub sound_ascii : (b : ℕ) (xs : List ℕ) → is_dark b ≡ true → b < 128 → IsSound xs → IsSound (b ∷ xs)
+pub sound_ascii : (b : ℕ) (xs : List ℕ) → is_word_byte b ≡ true → b < 128 → IsSoundText xs → IsSoundText (b ∷ xs)
 sound_ascii b xs dark low sound = sound_cons b xs dark (ascii_one b low) sound
 
 utf8_47 : IsUtf8 (47 ∷ [])
@@ -76,31 +76,31 @@ utf8_91 = ascii_one 91 (lit< tt)
 utf8_93 : IsUtf8 (93 ∷ [])
 utf8_93 = ascii_one 93 (lit< tt)
 
-dark_digit : (b : ℕ) → digit_value b < 10 → is_dark b ≡ true
+dark_digit : (b : ℕ) → digit_value b < 10 → is_word_byte b ≡ true
 dark_digit b small = let range = digit_from_value b small in grind (arith, nat_tests, range)
 
-dark_digits : (ds : List ℕ) → AllDigits 10 ds → AllPass is_dark ds
-dark_digits [] all = All-nil (λ x. is_dark x ≡ true)
-dark_digits (d ∷ ds) all = All-cons (λ x. is_dark x ≡ true) d ds (dark_digit d all.0) (dark_digits ds all.1)
+dark_digits : (ds : List ℕ) → AllDigits 10 ds → AllPass is_word_byte ds
+dark_digits [] all = All-nil (λ x. is_word_byte x ≡ true)
+dark_digits (d ∷ ds) all = All-cons (λ x. is_word_byte x ≡ true) d ds (dark_digit d all.0) (dark_digits ds all.1)
 
-pub sound_decimal : (n : ℕ) → n < 2 ^ 32 → IsSound (decimal n)
+pub sound_decimal : (n : ℕ) → n < 2 ^ 32 → IsSoundText (decimal n)
 sound_decimal n small =
     let fits : n < 2 ^ 64 = omega arith in
     record { dark = dark_digits (decimal n) (decimal_is_IsNumeral n fits).0.1; utf8 = IsUtf8-from_ascii (decimal n) (IsAscii-decimal n fits) }
 
-pub sound_name : (name : List ℕ) → IsName name → IsSound name
-sound_name name is = record { dark = all_imply is_name_byte is_dark name (λ x e. light x (is_white x) e) is.whole; utf8 = is.utf8 }
+pub sound_name : (name : List ℕ) → IsName name → IsSoundText name
+sound_name name is = record { dark = all_imply is_name_byte is_word_byte name (λ x e. light x (is_white x) e) is.whole; utf8 = is.utf8 }
   where
     light : (x : ℕ) (w : Bool) → not (w || ((x == 47) || ((x == 58) || ((x == 46) || ((x == 91) || (x == 93)))))) ≡ true → not w ≡ true
     light x true e = cc
     light x false e = refl
 
-sound_index : (n : ℕ) → n < 2 ^ 32 → IsSound (index_text n)
+sound_index : (n : ℕ) → n < 2 ^ 32 → IsSoundText (index_text n)
 sound_index n small =
     sound_cons 91 (decimal n ++ 93 ∷ []) refl utf8_91
     (sound_append (decimal n) (93 ∷ []) (sound_decimal n small) (sound_cons 93 [] refl utf8_93 sound_nil))
 
-sound_step : (mode child : List ℕ) (n : ℕ) → IsSound mode → IsSound child → n < 2 ^ 32 → IsSound (step_text mode child n)
+sound_step : (mode child : List ℕ) (n : ℕ) → IsSoundText mode → IsSoundText child → n < 2 ^ 32 → IsSoundText (step_text mode child n)
 sound_step mode child n is_mode is_child small =
     sound_cons 47 (mode ++ 58 ∷ (child ++ index_text n)) refl utf8_47
     (sound_append mode (58 ∷ (child ++ index_text n)) is_mode
@@ -110,12 +110,12 @@ sound_step mode child n is_mode is_child small =
 pub names_below : (root : PbType) (hop : Hop) (kid : PbType) → HasPlainNames root → child_at root hop ≡ Some kid → HasPlainNames kid
 names_below root hop kid plain is a block there = plain (hop ∷ a) block (ap (option_and_then (λ k. at k a)) is ∙ there)
 
-sound_steps : (root : PbType) (a : Address) → HasPlainNames root → IsSound (steps_text root a)
+sound_steps : (root : PbType) (a : Address) → HasPlainNames root → IsSoundText (steps_text root a)
 sound_steps root [] plain = sound_nil
 sound_steps root (hop ∷ hops) plain = by (λ kid below. sound_steps kid hops below) (child_at root hop) refl
   where
-    by : ((kid : PbType) → HasPlainNames kid → IsSound (steps_text kid hops)) → (o : Option PbType) → child_at root hop ≡ o →
-        IsSound (option_map_or (λ (kid : PbType). step_text (mode_text root hop.mode) kid.name hop.instance ++ steps_text kid hops) o [])
+    by : ((kid : PbType) → HasPlainNames kid → IsSoundText (steps_text kid hops)) → (o : Option PbType) → child_at root hop ≡ o →
+        IsSoundText (option_map_or (λ (kid : PbType). step_text (mode_text root hop.mode) kid.name hop.instance ++ steps_text kid hops) o [])
     by rest None e = sound_nil
     by rest (Some kid) e =
         let t : Takes root hop = takes root hop (subst (λ o. IsSome o) (sym e) refl) in
@@ -126,7 +126,7 @@ sound_steps root (hop ∷ hops) plain = by (λ kid below. sound_steps kid hops b
         let count : t.kid.count < 2 ^ 32 = subst (λ k. k.count < 2 ^ 32) (sym same) (below [] kid refl).count in
         sound_append (step_text (mode_text root hop.mode) kid.name hop.instance) (steps_text kid hops)
         (sound_step (mode_text root hop.mode) kid.name hop.instance
-        (subst IsSound (sym mode) (sound_name (name_of_mode t.mode) (own.modes.named hop.mode t.mode t.is_mode)))
+        (subst IsSoundText (sym mode) (sound_name (name_of_mode t.mode) (own.modes.named hop.mode t.mode t.is_mode)))
         (sound_name kid.name (below [] kid refl).name) (omega (arith, t.counted, count)))
         (rest kid below)
 
@@ -134,19 +134,19 @@ not_nil : (xs ys : List ℕ) → xs ≢ [] → xs ++ ys ≢ []
 not_nil [] ys some e = some refl
 not_nil (x ∷ xs) ys some e = cc
 
-pub word_of : (text : List ℕ) → text ≢ [] → IsSound text → IsWord text
-word_of text some sound = record { some = some; whole = all_imply is_dark (λ x. not (x == 32)) text (λ x e. no_blank x (x == 32) _ e) sound.dark }
+pub word_of : (text : List ℕ) → text ≢ [] → IsSoundText text → IsWord text
+word_of text some sound = record { some = some; whole = all_imply is_word_byte (λ x. not (x == 32)) text (λ x e. no_blank x (x == 32) _ e) sound.dark }
   where
     no_blank : (x : ℕ) (b c : Bool) → not (b || c) ≡ true → not b ≡ true
     no_blank x true c e = cc
     no_blank x false c e = refl
 
 -- what is written of an instance: a text of one word
-pub instance_sound : (g : Graph) (n : ℕ) → HasPlainNames g.root → n < length g.instances → IsSound (instance_name g n)
+pub instance_sound : (g : Graph) (n : ℕ) → HasPlainNames g.root → n < length g.instances → IsSoundText (instance_name g n)
 instance_sound g n plain inside =
     let a = element g.instances n inside in
     let is : instance_name g n ≡ g.root.name ++ steps_text g.root a.0 = ap (λ o. option_map_or (λ (x : Address). g.root.name ++ steps_text g.root x) o []) a.1 in
-    subst IsSound (sym is) (sound_append g.root.name (steps_text g.root a.0) (sound_name g.root.name (plain [] g.root refl).name) (sound_steps g.root a.0 plain))
+    subst IsSoundText (sym is) (sound_append g.root.name (steps_text g.root a.0) (sound_name g.root.name (plain [] g.root refl).name) (sound_steps g.root a.0 plain))
 
 pub instance_some : (g : Graph) (n : ℕ) → HasPlainNames g.root → n < length g.instances → instance_name g n ≢ []
 instance_some g n plain inside =
@@ -198,12 +198,12 @@ pub pin_name_is : (g : Graph) (n : ℕ) (p : PinIs g n) → pin_name g n ≡ ins
 pin_name_is g n p =
     ap (λ o. option_map_or (pin_text g) o []) p.there ∙ ap (λ t. instance_name g p.pin.pb.0 ++ 46 ∷ (t ++ index_text p.pin.bit)) p.named
 
-pub pin_sound : (g : Graph) (n : ℕ) → IsExpansion g → HasPlainNames g.root → n < length g.pins → IsSound (pin_name g n)
+pub pin_sound : (g : Graph) (n : ℕ) → IsExpansion g → HasPlainNames g.root → n < length g.pins → IsSoundText (pin_name g n)
 pin_sound g n law plain inside =
     let p = pin_is g n law inside in
     let ports = (plain p.address p.block p.is_block).ports in
     let small : p.port.width < 2 ^ 32 = ports.narrow p.pin.port p.port p.is_port in
-    subst IsSound (sym (pin_name_is g n p))
+    subst IsSoundText (sym (pin_name_is g n p))
     (sound_append (instance_name g p.pin.pb.0) (46 ∷ (p.port.name ++ index_text p.pin.bit)) (instance_sound g p.pin.pb.0 plain p.inside)
     (sound_cons 46 (p.port.name ++ index_text p.pin.bit) refl utf8_46
     (sound_append p.port.name (index_text p.pin.bit) (sound_name p.port.name (ports.named p.pin.port p.port p.is_port)) (sound_index p.pin.bit (omega (arith, p.is_bit, small))))))

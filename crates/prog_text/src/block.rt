@@ -31,7 +31,8 @@ impl BlockNames {
 
 /// The modes by name.
 fn mode_table(alloc: Global, modes: &[Mode]) -> Result<NameTable, AllocError>
-    ensures { IfOk result (λ table. IsTableOf (name_in name_of_mode modes.now) (length modes.now) table.numbers) }
+    ensures { IfOk result (λ table. IsTableOf (name_in name_of_mode modes.now) (length modes.now)
+        table.numbers) }
 {
     let mut table = NameTable::new(alloc);
     for (place, mode) in modes.iter().enumerate() {
@@ -54,7 +55,8 @@ fn kid_tables(alloc: Global, modes: &[Mode]) -> Result<Vec<NameTable>, AllocErro
 
 /// The children by name.
 fn kid_table(alloc: Global, kids: &[PbType]) -> Result<NameTable, AllocError>
-    ensures { IfOk result (λ table. IsTableOf (name_in kid_name kids.now) (length kids.now) table.numbers) }
+    ensures { IfOk result (λ table. IsTableOf (name_in kid_name kids.now) (length kids.now)
+        table.numbers) }
 {
     let mut table = NameTable::new(alloc);
     for (place, kid) in kids.iter().enumerate() {
@@ -65,7 +67,8 @@ fn kid_table(alloc: Global, kids: &[PbType]) -> Result<NameTable, AllocError>
 
 /// The ports by name.
 fn port_table(alloc: Global, ports: &[Port]) -> Result<NameTable, AllocError>
-    ensures { IfOk result (λ table. IsTableOf (name_in port_name ports.now) (length ports.now) table.numbers) }
+    ensures { IfOk result (λ table. IsTableOf (name_in port_name ports.now) (length ports.now)
+        table.numbers) }
 {
     let mut table = NameTable::new(alloc);
     for (place, port) in ports.iter().enumerate() {

@@ -10,7 +10,8 @@ use vtr_base::Bits;
 
 /// The value of decimal digits of any length, or 2^32 - 1 where it is larger.
 pub fn number(text: &[u8]) -> Option<u32>
-    ensures { MatchOption result (IsNumeral 10 text.now → ⊥) (λ value. IsNumeral 10 text.now × (value ≡ min (digits_value 10 text.now) 4294967295)) }
+    ensures { MatchOption result (IsNumeral 10 text.now → ⊥)
+        (λ value. IsNumeral 10 text.now × (value ≡ min (digits_value 10 text.now) 4294967295)) }
 {
     if text.is_empty() {
         return None;

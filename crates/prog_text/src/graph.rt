@@ -7,8 +7,8 @@ use crate::block::BlockNames;
 use pb_expand::{PbGraph, PbIx};
 use std::alloc::{AllocError, Global};
 
-/// The names in a graph, by which instances, pins, modes, children and ports are found. Instances of
-/// one pb_type share their tables.
+/// The names in a graph, by which instances, pins, modes, children and ports are found. Instances
+/// of one pb_type share their tables.
 #[derive(Drop)]
 pub struct GraphNames {
     /// For each instance the place of its tables.
@@ -68,7 +68,8 @@ impl GraphNames {
     pub fn mode(&self, graph: &PbGraph, pb: PbIx, name: &[u8]) -> Option<u32>
         requires there { pb.0 < length graph.now.instances }
         requires of { AreNamesOf graph.now self.now }
-        ensures { MatchOption result ((mode : ℕ) → NamesMode graph.now pb.0 name.now mode → ⊥) (λ mode. NamesMode graph.now pb.0 name.now mode) }
+        ensures { MatchOption result ((mode : ℕ) → NamesMode graph.now pb.0 name.now mode → ⊥)
+            (λ mode. NamesMode graph.now pb.0 name.now mode) }
     {
         self.of(graph, pb).modes.get(name)
     }
@@ -77,7 +78,8 @@ impl GraphNames {
     pub fn child(&self, graph: &PbGraph, pb: PbIx, mode: u32, name: &[u8]) -> Option<u32>
         requires there { pb.0 < length graph.now.instances }
         requires of { AreNamesOf graph.now self.now }
-        ensures { MatchOption result ((child : ℕ) → NamesChild graph.now pb.0 mode name.now child → ⊥) (λ child. NamesChild graph.now pb.0 mode name.now child) }
+        ensures { MatchOption result ((child : ℕ) → NamesChild graph.now pb.0 mode name.now child
+            → ⊥) (λ child. NamesChild graph.now pb.0 mode name.now child) }
     {
         let names = self.of(graph, pb);
         if mode as usize >= names.kids.len() {
@@ -91,7 +93,8 @@ impl GraphNames {
     pub fn port(&self, graph: &PbGraph, pb: PbIx, name: &[u8]) -> Option<u32>
         requires there { pb.0 < length graph.now.instances }
         requires of { AreNamesOf graph.now self.now }
-        ensures { MatchOption result ((port : ℕ) → NamesPort graph.now pb.0 name.now port → ⊥) (λ port. NamesPort graph.now pb.0 name.now port) }
+        ensures { MatchOption result ((port : ℕ) → NamesPort graph.now pb.0 name.now port → ⊥)
+            (λ port. NamesPort graph.now pb.0 name.now port) }
     {
         self.of(graph, pb).ports.get(name)
     }

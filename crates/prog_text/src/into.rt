@@ -16,7 +16,8 @@ pub(crate) fn find_edge(
 ) -> Option<EdgeIx>
     requires inside { pin.0 < length graph.now.pins }
     requires of { AreNamesOf graph.now names.now }
-    ensures { MatchOption result ((edge : ℕ) → IsEdgeWanted graph.now edge pin.0 mode.now wanted → ⊥) (λ edge. IsEdgeWanted graph.now edge.0 pin.0 mode.now wanted) }
+    ensures { MatchOption result ((edge : ℕ) → IsEdgeWanted graph.now edge pin.0 mode.now wanted
+        → ⊥) (λ edge. IsEdgeWanted graph.now edge.0 pin.0 mode.now wanted) }
 {
     graph.law();
     let pb = graph.pin_at(pin).pb;
@@ -46,7 +47,9 @@ fn find_own(
     requires pin { pin.0 < length graph.now.pins }
     requires pb { pb.0 < length graph.now.instances }
     requires of { AreNamesOf graph.now names.now }
-    ensures { MatchOption result ((edge : ℕ) (is : IsEdgeWanted graph.now edge pin.0 mode.now wanted) → is.edge.owner.0 ≡ pb.0 → ⊥) (λ edge. IsEdgeWanted graph.now edge.0 pin.0 mode.now wanted) }
+    ensures { MatchOption result ((edge : ℕ) (is : IsEdgeWanted graph.now edge pin.0 mode.now
+        wanted) → is.edge.owner.0 ≡ pb.0 → ⊥) (λ edge. IsEdgeWanted graph.now edge.0 pin.0 mode.now
+        wanted) }
 {
     graph.law();
     match names.mode(graph, pb, mode) {
@@ -64,7 +67,8 @@ fn find_in_mode(
     wanted: Option<PinIx>,
 ) -> Option<EdgeIx>
     requires { pin.0 < length graph.now.pins }
-    ensures { MatchOption result ((edge : ℕ) → IsEdgeIn graph.now edge pin.0 owner.0 mode wanted → ⊥) (λ edge. IsEdgeIn graph.now edge.0 pin.0 owner.0 mode wanted) }
+    ensures { MatchOption result ((edge : ℕ) → IsEdgeIn graph.now edge pin.0 owner.0 mode wanted
+        → ⊥) (λ edge. IsEdgeIn graph.now edge.0 pin.0 owner.0 mode wanted) }
 {
     for edge in graph.edges_into(pin, mode) {
         if is_wanted(graph, *edge, pin, owner, mode, wanted) {

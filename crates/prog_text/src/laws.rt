@@ -42,7 +42,8 @@ pub fn laws_of_the_text(graph: &PbGraph)
 /// The names in each block type of an architecture are plain, so that the laws on the text of
 /// programmings hold of its graph. It does nothing.
 pub fn plain_names(arch: &Arch)
-    ensures { (n : ℕ) (root : PbType) → slice_get arch.now.blocks n ≡ Some root → HasPlainNames root }
+    ensures { (n : ℕ) (root : PbType) → slice_get arch.now.blocks n ≡ Some root → HasPlainNames
+        root }
 {
     arch.law();
 }

@@ -46,7 +46,8 @@ pub(crate) fn put_site(
 fn put_mode(line: &mut Vec<u8>, graph: &PbGraph, pb: PbIx, mode: u32) -> Result<(), AllocError>
     requires inside { pb.0 < length graph.now.instances }
     requires mode { IsModeOf graph.now pb.0 mode }
-    ensures { OnOk result (line.new.items ≡ line.old.items ++ (line_of graph.now (Mode pb mode) ++ 10 ∷ [])) }
+    ensures { OnOk result (line.new.items ≡ line.old.items
+        ++ (line_of graph.now (Mode pb mode) ++ 10 ∷ [])) }
 {
     line.extend_from_slice(b"mode ")?;
     put_instance(line, graph, pb)?;
@@ -66,7 +67,8 @@ fn put_pick(
 ) -> Result<(), AllocError>
     requires pin { pin.0 < length graph.now.pins }
     requires edge { number.0 < length graph.now.edges }
-    ensures { OnOk result (line.new.items ≡ line.old.items ++ (line_of graph.now (Pick pin mode number) ++ 10 ∷ [])) }
+    ensures { OnOk result (line.new.items ≡ line.old.items
+        ++ (line_of graph.now (Pick pin mode number) ++ 10 ∷ [])) }
 {
     graph.law();
     let edge = graph.edge(number);
@@ -83,7 +85,8 @@ fn put_pick(
 /// Appends `used INST` and a line feed.
 fn put_used(line: &mut Vec<u8>, graph: &PbGraph, pb: PbIx) -> Result<(), AllocError>
     requires { pb.0 < length graph.now.instances }
-    ensures { OnOk result (line.new.items ≡ line.old.items ++ (line_of graph.now (Used pb) ++ 10 ∷ [])) }
+    ensures { OnOk result (line.new.items ≡ line.old.items
+        ++ (line_of graph.now (Used pb) ++ 10 ∷ [])) }
 {
     line.extend_from_slice(b"used ")?;
     put_instance(line, graph, pb)?;
@@ -99,7 +102,8 @@ fn put_lut(
     choice: &LutChoice,
 ) -> Result<(), AllocError>
     requires { pb.0 < length graph.now.instances }
-    ensures { OnOk result (line.new.items ≡ line.old.items ++ (line_of graph.now (Lut pb choice.now) ++ 10 ∷ [])) }
+    ensures { OnOk result (line.new.items ≡ line.old.items
+        ++ (line_of graph.now (Lut pb choice.now) ++ 10 ∷ [])) }
 {
     line.extend_from_slice(b"lut ")?;
     put_instance(line, graph, pb)?;

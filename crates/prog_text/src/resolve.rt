@@ -213,7 +213,8 @@ fn is_table_size(len: usize, width: u32) -> bool
 /// An instance with modes that is written so.
 fn block_named(graph: &PbGraph, names: &GraphNames, text: &[u8]) -> Option<PbIx>
     requires { AreNamesOf graph.now names.now }
-    ensures { MatchOption result (LacksInstance graph.now text.now (HasModes graph.now)) (λ pb. NamesInstance graph.now text.now pb.0 × HasModes graph.now pb.0) }
+    ensures { MatchOption result (LacksInstance graph.now text.now (HasModes graph.now))
+        (λ pb. NamesInstance graph.now text.now pb.0 × HasModes graph.now pb.0) }
 {
     let pb = names.instance(graph, text)?;
     if is_leaf(graph, pb) {
@@ -225,7 +226,8 @@ fn block_named(graph: &PbGraph, names: &GraphNames, text: &[u8]) -> Option<PbIx>
 /// A leaf that is written so.
 fn leaf_named(graph: &PbGraph, names: &GraphNames, text: &[u8]) -> Option<PbIx>
     requires { AreNamesOf graph.now names.now }
-    ensures { MatchOption result (LacksInstance graph.now text.now (IsLeaf graph.now)) (λ pb. NamesInstance graph.now text.now pb.0 × IsLeaf graph.now pb.0) }
+    ensures { MatchOption result (LacksInstance graph.now text.now (IsLeaf graph.now))
+        (λ pb. NamesInstance graph.now text.now pb.0 × IsLeaf graph.now pb.0) }
 {
     let pb = names.instance(graph, text)?;
     if !is_leaf(graph, pb) {
@@ -237,7 +239,8 @@ fn leaf_named(graph: &PbGraph, names: &GraphNames, text: &[u8]) -> Option<PbIx>
 /// A LUT that is written so.
 fn lut_named(graph: &PbGraph, names: &GraphNames, text: &[u8]) -> Option<PbIx>
     requires { AreNamesOf graph.now names.now }
-    ensures { MatchOption result (LacksInstance graph.now text.now (IsLut graph.now)) (λ pb. NamesInstance graph.now text.now pb.0 × IsLut graph.now pb.0) }
+    ensures { MatchOption result (LacksInstance graph.now text.now (IsLut graph.now))
+        (λ pb. NamesInstance graph.now text.now pb.0 × IsLut graph.now pb.0) }
 {
     let pb = names.instance(graph, text)?;
     if !is_lut(graph, pb) {

@@ -26,7 +26,9 @@ pub(crate) struct StepText<'a> {
 
 /// The first step of a text, `/MODE:CHILD[i]`.
 pub(crate) fn first_step(text: &[u8]) -> Option<StepText<'_>>
-    ensures { MatchOption result ((mode child : List ℕ) (i : ℕ) (rest : List ℕ) → IsFirstStep text.now mode child i rest → ⊥) (λ s. IsFirstStep text.now s.mode.now s.child.now s.instance s.rest.now) }
+    ensures { MatchOption result ((mode child : List ℕ) (i : ℕ) (rest : List ℕ) → IsFirstStep
+        text.now mode child i rest → ⊥) (λ s. IsFirstStep text.now s.mode.now s.child.now s.instance
+        s.rest.now) }
 {
     let (before, names) = cut(text, b'/')?;
     if !before.is_empty() {
@@ -44,7 +46,8 @@ pub(crate) fn first_step(text: &[u8]) -> Option<StepText<'_>>
 
 /// A text that begins with `NAME[i]`.
 pub(crate) fn indexed(text: &[u8]) -> Option<NameIndex<'_>>
-    ensures { MatchOption result ((name : List ℕ) (i : ℕ) (rest : List ℕ) → IsIndexed text.now name i rest → ⊥) (λ t. IsIndexed text.now t.name.now t.index t.rest.now) }
+    ensures { MatchOption result ((name : List ℕ) (i : ℕ) (rest : List ℕ) → IsIndexed text.now name
+        i rest → ⊥) (λ t. IsIndexed text.now t.name.now t.index t.rest.now) }
 {
     let (name, behind) = cut(text, b'[')?;
     let (digits, rest) = cut(behind, b']')?;
@@ -53,15 +56,17 @@ pub(crate) fn indexed(text: &[u8]) -> Option<NameIndex<'_>>
 }
 
 /// What follows `front`, where the text begins with it.
-pub(crate) fn without_front<'a>(text: &'a [u8], front: &[u8]) -> Option<&'a [u8]>
-    ensures { MatchOption result ((rest : List ℕ) → text.now ≢ front.now ++ rest) (λ rest. text.now ≡ front.now ++ rest.now) }
+pub(crate) fn without_prefix<'a>(text: &'a [u8], front: &[u8]) -> Option<&'a [u8]>
+    ensures { MatchOption result ((rest : List ℕ) → text.now ≢ front.now ++ rest)
+        (λ rest. text.now ≡ front.now ++ rest.now) }
 {
     text.strip_prefix(front)
 }
 
 /// The number that these digits write, without leading zeros.
 fn plain_number(digits: &[u8]) -> Option<u32>
-    ensures is { MatchOption result ((n : ℕ) → n < 2 ^ 32 → digits.now ≡ decimal n → ⊥) (λ n. digits.now ≡ decimal n) }
+    ensures is { MatchOption result ((n : ℕ) → n < 2 ^ 32 → digits.now ≡ decimal n → ⊥)
+        (λ n. digits.now ≡ decimal n) }
     ensures small { IfSome result (λ n. n < 2 ^ 32) }
 {
     let value = number(digits)?;

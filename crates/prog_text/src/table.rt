@@ -23,7 +23,8 @@ impl NameTable {
     /// Gives a name a number, which is a place in a list of fewer than 2^32 elements. A name that
     /// has one gets this in its place.
     pub(crate) fn put(&mut self, alloc: Global, name: &[u8], place: usize) -> Result<(), AllocError>
-        ensures { OnOk result ((text : List ℕ) → numbered self.new.numbers text ≡ cond (bytes_eq name.now text) (Some place) (numbered self.old.numbers text)) }
+        ensures { OnOk result ((text : List ℕ) → numbered self.new.numbers text ≡ cond
+            (bytes_eq name.now text) (Some place) (numbered self.old.numbers text)) }
     {
         let Ok(number) = u32::try_from(place) else {
             return Err(AllocError);

@@ -5,7 +5,8 @@ use vtr_base::cut;
 
 /// The first word of a text and what follows the blank behind it.
 pub fn first_word(text: &[u8]) -> Option<(&[u8], &[u8])>
-    ensures { MatchOption result ((word rest : List ℕ) → IsFirstWord text.now word rest → ⊥) (λ r. IsFirstWord text.now r.0.now r.1.now) }
+    ensures { MatchOption result ((word rest : List ℕ) → IsFirstWord text.now word rest → ⊥)
+        (λ r. IsFirstWord text.now r.0.now r.1.now) }
 {
     let (word, rest) = cut(text, b' ')?;
     if word.is_empty() {
@@ -36,7 +37,8 @@ pub fn is_one_word(text: &[u8]) -> bool
 
 /// A text of two words.
 pub fn two_words(text: &[u8]) -> Option<(&[u8], &[u8])>
-    ensures { MatchOption result ((first second : List ℕ) → AreWords text.now (first ∷ second ∷ []) → ⊥) (λ r. AreWords text.now (r.0.now ∷ r.1.now ∷ [])) }
+    ensures { MatchOption result ((first second : List ℕ) → AreWords text.now (first ∷ second ∷ [])
+        → ⊥) (λ r. AreWords text.now (r.0.now ∷ r.1.now ∷ [])) }
 {
     let (first, second) = first_word(text)?;
     if !is_one_word(second) {
@@ -47,7 +49,9 @@ pub fn two_words(text: &[u8]) -> Option<(&[u8], &[u8])>
 
 /// A text of three words.
 pub fn three_words(text: &[u8]) -> Option<(&[u8], &[u8], &[u8])>
-    ensures { MatchOption result ((first second third : List ℕ) → AreWords text.now (first ∷ second ∷ third ∷ []) → ⊥) (λ r. AreWords text.now (r.0.now ∷ r.1.now ∷ r.2.now ∷ [])) }
+    ensures { MatchOption result ((first second third : List ℕ) → AreWords text.now
+        (first ∷ second ∷ third ∷ []) → ⊥) (λ r. AreWords text.now
+        (r.0.now ∷ r.1.now ∷ r.2.now ∷ [])) }
 {
     let (first, rest) = first_word(text)?;
     let (second, third) = two_words(rest)?;

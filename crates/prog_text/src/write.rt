@@ -17,8 +17,10 @@ use std::alloc::AllocError;
 pub fn write_prog(out: &mut Vec<u8>, graph: &PbGraph, prog: &Prog) -> Result<(), AllocError>
     requires { IsProgOf graph.now prog.now }
     ensures text { OnOk result (out.new.items ≡ out.old.items ++ prog_text graph.now prog.now) }
-    ensures part { OnErr result (IsPart out.old.items (prog_text graph.now prog.now) out.new.items) }
-    ensures spells { OnOk result (HasPlainNames graph.now.root → SpellsProg graph.now (prog_text graph.now prog.now) prog.now) }
+    ensures part { OnErr result (IsPart out.old.items (prog_text graph.now prog.now)
+        out.new.items) }
+    ensures spells { OnOk result (HasPlainNames graph.now.root → SpellsProg graph.now
+        (prog_text graph.now prog.now) prog.now) }
 {
     graph.law();
     let sites = sites_of(*out.allocator(), graph)?;
@@ -34,8 +36,10 @@ fn write_sites(
 ) -> Result<(), AllocError>
     requires inside { All (IsInside graph.now) sites.now }
     requires of { IsProgOf graph.now prog.now }
-    ensures text { OnOk result (out.new.items ≡ out.old.items ++ flat_map (site_text graph.now prog.now) sites.now) }
-    ensures part { OnErr result (IsPart out.old.items (flat_map (site_text graph.now prog.now) sites.now) out.new.items) }
+    ensures text { OnOk result (out.new.items ≡ out.old.items ++ flat_map
+        (site_text graph.now prog.now) sites.now) }
+    ensures part { OnErr result (IsPart out.old.items
+        (flat_map (site_text graph.now prog.now) sites.now) out.new.items) }
 {
     for site in sites {
         write_site(out, graph, prog, *site)?;
@@ -52,8 +56,10 @@ fn write_site(
 ) -> Result<(), AllocError>
     requires inside { IsInside graph.now site }
     requires of { IsProgOf graph.now prog.now }
-    ensures text { OnOk result (out.new.items ≡ out.old.items ++ site_text graph.now prog.now site) }
-    ensures part { OnErr result (IsPart out.old.items (site_text graph.now prog.now site) out.new.items) }
+    ensures text { OnOk result (out.new.items ≡ out.old.items ++ site_text graph.now prog.now
+        site) }
+    ensures part { OnErr result (IsPart out.old.items (site_text graph.now prog.now site)
+        out.new.items) }
 {
     if !prog.is_set(site) {
         return Ok(());

@@ -1,5 +1,5 @@
 use Rattle.std.specs.List.{flat_map}
-use Rattle.mode_edges.specs.declared.pin.Role.TheVariants.{Source, End}
+use Rattle.mode_edges.specs.declared.pin.EdgeEnd.TheVariants.{Source, End}
 use Rattle.mode_edges.specs.Pairs.{edges_in, given_by, AddsUpTo}
 use Rattle.mode_edges.specs.Readers.{pins_of}
 use Rattle.mode_edges.proofs.Verdicts.{none_unnamed, pins_named, at_both}

@@ -10,15 +10,15 @@ loop-rest-init c =
 pub loop-rest-preserved : goal.loop-rest-preserved
 loop-rest-preserved c =
     let some = is_empty_false (length c.loop-rest.rest.now) c.is_empty.result c.is_empty.ensures c.loop-rest-test.true in
-    left_pushed c.args.text.now c.white-in-loop-rest.result.1.now c.loop-rest.found.items c.push.new.self.items c.dark.result.0 c.in_ok-push.ensures.items
-    (left_goes_on c.args.text.now c.loop-rest.rest.now c.dark.result.0.now c.dark.result.1.now c.white-in-loop-rest.result.0.now
-    c.white-in-loop-rest.result.1.now (map (λ w. w.now) c.loop-rest.found.items) some c.loop-rest.invariant c.dark.ensures c.white-in-loop-rest.ensures)
+    left_pushed c.args.text.now c.white-in-loop-rest.result.1.now c.loop-rest.found.items c.push.new.self.items c.word_and_rest.result.0 c.in_ok-push.ensures.items
+    (left_goes_on c.args.text.now c.loop-rest.rest.now c.word_and_rest.result.0.now c.word_and_rest.result.1.now c.white-in-loop-rest.result.0.now
+    c.white-in-loop-rest.result.1.now (map (λ w. w.now) c.loop-rest.found.items) some c.loop-rest.invariant c.word_and_rest.ensures c.white-in-loop-rest.ensures)
 
 pub loop-rest-smaller : goal.loop-rest-smaller
 loop-rest-smaller c =
     let some = is_empty_false (length c.loop-rest.rest.now) c.is_empty.result c.is_empty.ensures c.loop-rest-test.true in
-    left_shrinks c.loop-rest.rest.now c.dark.result.0.now c.dark.result.1.now c.white-in-loop-rest.result.0.now
-    c.white-in-loop-rest.result.1.now some c.loop-rest.invariant.stops c.dark.ensures c.white-in-loop-rest.ensures
+    left_shrinks c.loop-rest.rest.now c.word_and_rest.result.0.now c.word_and_rest.result.1.now c.white-in-loop-rest.result.0.now
+    c.white-in-loop-rest.result.1.now some c.loop-rest.invariant.stops c.word_and_rest.ensures c.white-in-loop-rest.ensures
 
 pub returns : goal.returns
 returns c =

@@ -1,7 +1,7 @@
 use Rattle.std.proofs.Common.{◌≡◌, Some, length, slice_get, refl, ap, ◌∙◌, subst, arith}
 use Rattle.std.proofs.lemmas.Option.{slice_get_read}
 use Rattle.arch_types.specs.declared.arch.ArchParts.{ArchParts}
-use Rattle.pb_expand.proofs.AllGraphs.{one_made}
+use Rattle.pb_expand.proofs.AllGraphs.{one_made, root_is_sound, root_fits}
 use Rattle.pb_expand.proofs.all.expand_all.Goals as goal
 
 pub returns-in-Err-clause-refused : goal.returns-in-Err-clause-refused
@@ -30,4 +30,6 @@ returns-clause-graphs c =
       number = λ n g at. (made.each n g at).number;
       root = λ n g at. (made.each n g at).root;
       expansion = λ n g at. (made.each n g at).expansion;
+      sound = λ n g at. root_is_sound c.args.arch.now.blocks c.loop-block.block c.loop-block.graphs.items made n g at;
+      fits = λ n g at. root_fits c.args.arch.now.blocks c.loop-block.block c.loop-block.graphs.items made n g at;
     }

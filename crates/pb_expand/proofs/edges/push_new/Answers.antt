@@ -3,7 +3,7 @@ use Rattle.std.proofs.lemmas.Option.{slice_get_read, slice_get_within}
 use Rattle.arch_types.specs.declared.block.PbType.{PbType}
 use Rattle.arch_types.specs.Tree.{modes_of}
 use Rattle.mode_edges.specs.Edges.{AreEdges, HasMoreEdges}
-use Rattle.mode_edges.specs.Faults.{IsSound}
+use Rattle.mode_edges.specs.Faults.{IsSoundMode}
 use Rattle.pb_expand.specs.declared.error.SizeError.TheVariants as size
 use Rattle.pb_expand.specs.Rows.{addresses}
 use Rattle.pb_expand.specs.Making.{AddsPlaced, HavePlaces, AreModeEdges}
@@ -22,7 +22,7 @@ local_edges-requires c =
     let read = slice_get_read modes (length modes) c.loop-mode.mode c.is-item.result refl c.loop-mode-test.true c.is-item.is in
     let is_mode : slice_get (modes_of c.index-block.result.now.now.kind) c.loop-mode.mode ≡ Some c.is-item.result =
     ap (λ ms. slice_get ms c.loop-mode.mode) (sym c.modes_in-is-items.ensures) ∙ read in
-    subst (λ (b : PbType). IsSound b c.is-item.result) (sym c.in_ok-ports.ensures)
+    subst (λ (b : PbType). IsSoundMode b c.is-item.result) (sym c.in_ok-ports.ensures)
     (c.requires.parts.sound c.args.owner.0 c.loop-mode.mode c.index-block.result.now.now c.is-item.result here is_mode)
 
 pub returns-in_err-local-clause-many : goal.returns-in_err-local-clause-many

@@ -1,7 +1,7 @@
 use Rattle.std.proofs.Common.{◌≡◌, ◌∙◌, subst, ◌+◌, ◌∷◌, [], map, drop, ◌++◌}
 use Rattle.arch_types.specs.declared.block.PbType.{PbType}
 use Rattle.arch_types.specs.declared.block.Mode.{Mode}
-use Rattle.mode_edges.specs.Faults.{IsSound, TellsFirst}
+use Rattle.mode_edges.specs.Faults.{IsSoundMode, TellsFirst}
 use Rattle.mode_edges.specs.Scopes.{ModeOf}
 use Rattle.pb_expand.specs.Types.{mode_of, own_modes}
 use Rattle.pb_expand.specs.Refusals.{TellsFirstIn}
@@ -34,4 +34,4 @@ loop-mode-preserved c =
     c.loop-mode.invariant (own_step block modes k c.mode-item.result c.loop-mode-test.true c.mode-item.is) in
     goes_past (own_modes block) (mode_of block c.mode-item.result ∷ []) (map (mode_of block) (drop (k + 1) modes)) goes
     (sound_one block c.mode-item.result
-    (in_names IsSound c.in_ok-names.names block c.mode-item.result (c.in_ok-names.ensures.block ∙ c.in_ok-ports.ensures) c.in_ok-names.ensures.mode c.in_ok-check.ensures))
+    (in_names IsSoundMode c.in_ok-names.names block c.mode-item.result (c.in_ok-names.ensures.block ∙ c.in_ok-ports.ensures) c.in_ok-names.ensures.mode c.in_ok-check.ensures))

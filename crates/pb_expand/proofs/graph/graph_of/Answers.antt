@@ -10,7 +10,7 @@ use Rattle.pb_expand.specs.Ends.{pairs_from}
 use Rattle.pb_expand.specs.Making.{AreBefore}
 use Rattle.pb_expand.specs.declared.error.ExpandError.TheVariants.{OutOfMemory}
 use Rattle.pb_expand.specs.Graph.{pins_of}
-use Rattle.pb_expand.specs.Refusals.{IsRefusal, edge_told, size_told}
+use Rattle.pb_expand.specs.Refusals.{IsRefusal, error_of_edge, error_of_size}
 use Rattle.pb_expand.proofs.RowLemmas.{length-addresses}
 use Rattle.pb_expand.proofs.EdgeList.{made_inside}
 use Rattle.pb_expand.proofs.Firsts.{stand_for}
@@ -23,15 +23,15 @@ use Rattle.pb_expand.proofs.graph.graph_of.Goals as goal
 pub returns-in_err-check_tree-clause-refused : goal.returns-in_err-check_tree-clause-refused
 returns-in_err-check_tree-clause-refused c =
     let e = c.in_err-check_tree.field-0.0 in
-    passed_with (IsRefusal c.args.root.now) _ (edge_told e) c.from_residual-in_err-check_tree.ensures.1
-    (subst (λ (b : PbType). IsRefusal b (edge_told e)) c.in_ok-copy.ensures (fault_told c.in_ok-copy.copy e c.in_err-check_tree.ensures.fault))
+    passed_with (IsRefusal c.args.root.now) _ (error_of_edge e) c.from_residual-in_err-check_tree.ensures.1
+    (subst (λ (b : PbType). IsRefusal b (error_of_edge e)) c.in_ok-copy.ensures (fault_told c.in_ok-copy.copy e c.in_err-check_tree.ensures.fault))
 
 pub returns-in_err-places-clause-refused : goal.returns-in_err-places-clause-refused
 returns-in_err-places-clause-refused c =
     let e = c.in_err-places.field-0.0 in
     let copy = c.in_ok-copy.copy in
-    passed_with (IsRefusal c.args.root.now) _ (size_told e) c.from_residual-in_err-places.ensures.1
-    (subst (λ (b : PbType). IsRefusal b (size_told e)) c.in_ok-copy.ensures
+    passed_with (IsRefusal c.args.root.now) _ (error_of_size e) c.from_residual-in_err-places.ensures.1
+    (subst (λ (b : PbType). IsRefusal b (error_of_size e)) c.in_ok-copy.ensures
     (excess_told copy e (Err e) refl c.in_ok-check_tree.ensures.sound (λ told. or_edges copy (c.in_err-places.ensures.many told))))
 
 pub edges_of-requires-clause-parts : goal.edges_of-requires-clause-parts
@@ -46,8 +46,8 @@ returns-in_err-edges-clause-refused c =
     let e = c.in_err-edges.field-0.0 in
     let copy = c.in_ok-copy.copy in
     let places = c.in_ok-places.places in
-    passed_with (IsRefusal c.args.root.now) _ (size_told e) c.from_residual-in_err-edges.ensures.1
-    (subst (λ (b : PbType). IsRefusal b (size_told e)) c.in_ok-copy.ensures
+    passed_with (IsRefusal c.args.root.now) _ (error_of_size e) c.from_residual-in_err-edges.ensures.1
+    (subst (λ (b : PbType). IsRefusal b (error_of_size e)) c.in_ok-copy.ensures
     (excess_told copy e (Err e) refl c.in_ok-check_tree.ensures.sound (λ told.
     inr (inr (more_edges copy (map (λ b. b.now) places.blocks.items) (addresses places.rows.keys) places.pins.keys 4194304 c.in_ok-places.ensures.blocks
     c.in_ok-places.ensures.instances c.in_ok-places.ensures.pins (c.in_err-edges.ensures.many told))))))
