@@ -1,4 +1,5 @@
-//! The command `trace ARCH BLOCK PROG`: the last pin of the walk back from each input pin of a leaf.
+//! The command `trace ARCH BLOCK PROG`: the last pin of the walk back from each input pin of a
+//! leaf.
 #![tactic(auto)]
 
 mod lines;

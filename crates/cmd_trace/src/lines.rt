@@ -16,7 +16,8 @@ use std::alloc::{AllocError, Global};
 /// pin of the walk back from it, or `open`.
 pub fn answers(alloc: Global, graph: &PbGraph, prog: &Prog) -> Result<Vec<u8>, AllocError>
     requires { IsProgOf graph.now prog.now }
-    ensures { IfOk result (λ text. AreAnswers graph.now prog.now (leaf_inputs graph.now) text.items) }
+    ensures { IfOk result (λ text. AreAnswers graph.now prog.now (leaf_inputs graph.now)
+        text.items) }
 {
     let live = live_instances(alloc, graph, prog)?;
     let last = last_pins(alloc, graph, prog, live.as_slice())?;

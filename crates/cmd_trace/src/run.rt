@@ -25,9 +25,12 @@ pub fn trace<S: Shelf>(
 ) -> Result<Answer, Stop>
     ensures held { S.files shelf.new ≡ S.files shelf.old }
     ensures count { S.faults shelf.old ≤ S.faults shelf.new }
-    ensures answer { let w = world (S.files shelf.old) (S.faults shelf.old) (S.faults shelf.new) in IfOk result (λ a. AnswersTrace w arch.now block.now prog.now a.status a.text.items) }
-    ensures stopped { let w = world (S.files shelf.old) (S.faults shelf.old) (S.faults shelf.new) in IfErr result (StopsTrace w arch.now block.now prog.now) }
-    ensures complete { let w = world (S.files shelf.old) (S.faults shelf.old) (S.faults shelf.new) in IsValid w arch.now block.now prog.now → IfErr result (λ s. s ≡ Stop.Memory) }
+    ensures answer { let w = world (S.files shelf.old) (S.faults shelf.old) (S.faults shelf.new) in
+        IfOk result (λ a. AnswersTrace w arch.now block.now prog.now a.status a.text.items) }
+    ensures stopped { let w = world (S.files shelf.old) (S.faults shelf.old) (S.faults shelf.new) in
+        IfErr result (StopsTrace w arch.now block.now prog.now) }
+    ensures complete { let w = world (S.files shelf.old) (S.faults shelf.old) (S.faults shelf.new)
+        in IsValid w arch.now block.now prog.now → IfErr result (λ s. s ≡ Stop.Memory) }
 {
     valid_is_read();
     let expanded = read_expanded(alloc, arch, shelf)?;
@@ -46,7 +49,8 @@ fn text_of(alloc: Global, prog: &str, graph: &PbGraph, bytes: &[u8]) -> Result<V
     requires { HasPlainNames graph.now.root }
     ensures text { IfOk result (λ text. IsTextOf graph.now bytes.now text.items) }
     ensures stopped { IfErr result (IsRefusedProg graph.now prog.now bytes.now) }
-    ensures complete { (c : Choices) → SpellsProg graph.now bytes.now c → IfErr result (λ s. s ≡ Stop.Memory) }
+    ensures complete { (c : Choices) → SpellsProg graph.now bytes.now c → IfErr result
+        (λ s. s ≡ Stop.Memory) }
 {
     laws_of_the_text(graph);
     match read_prog(alloc, bytes, graph) {

@@ -1,6 +1,6 @@
 -- A stop at a later input, told of the whole run.
 use Rattle.std.proofs.Common.{◌≡◌, ◌≤◌, ◌<◌, ◌⊎◌, inl, inr, ℕ, List, Option, Some, None, refl, sym, ap, subst, ◌∙◌, arith}
-use Rattle.vtr_base.specs.Outside.{Files, Rose, Told}
+use Rattle.vtr_base.specs.Outside.{Files, Rose, WhereKnown}
 use Rattle.run_base.specs.declared.stop.Stop.{Stop}
 use Rattle.run_base.specs.declared.stop.Stop.TheVariants.{Refused, Outside, Memory}
 use Rattle.run_base.specs.Worlds.{World, world, Failed, Fetched}

@@ -1,6 +1,6 @@
 -- Why a run stops before its answer.
 use Rattle.std.specs.Prelude.{◌≡◌, ◌⊎◌, ◌++◌, ℕ, Bool, false, List, None, codes}
-use Rattle.vtr_base.specs.Outside.{file, Told, IsHeldLonger}
+use Rattle.vtr_base.specs.Outside.{file, WhereKnown, IsLongerOnShelf}
 use Rattle.vtr_base.specs.declared.outside.ShelfError.{ShelfError}
 use Rattle.vtr_base.specs.declared.outside.ShelfError.TheVariants as shelf
 use Rattle.run_base.specs.declared.stop.Stop.{Stop}
@@ -10,12 +10,12 @@ use Rattle.run_base.specs.Worlds.{World, Failed, Fetched, room}
 -- the shelf holds no file of that name
 pub record IsMissing (w : World) (name why : List ℕ) : Type 0 where
   pub told : why ≡ codes "7 Missing"
-  pub absent : Told w.files (λ m. file m name ≡ None)
+  pub absent : WhereKnown w.files (λ m. file m name ≡ None)
 
 -- the file has more bytes than there is room for
 pub record IsTooLong (w : World) (name why : List ℕ) : Type 0 where
   pub told : why ≡ codes "4 TooLong"
-  pub longer : Told w.files (λ m. IsHeldLonger m name room)
+  pub longer : WhereKnown w.files (λ m. IsLongerOnShelf m name room)
 
 -- the file's bytes are refused; `Bad` says which bytes are, and what is told of them
 pub record HasBadBytes (w : World) (name : List ℕ) (Bad : List ℕ → List ℕ → Type 0) (why : List ℕ) : Type 0 where

@@ -1,7 +1,7 @@
 -- What a run meets and what it leaves: the files of its shelf, with the count of faults, and the
 -- bytes of its sink.
 use Rattle.std.specs.Prelude.{◌≡◌, ◌≤◌, ◌++◌, ℕ, List, Option, Some, length}
-use Rattle.vtr_base.specs.Outside.{Files, file, Told, Rose}
+use Rattle.vtr_base.specs.Outside.{Files, file, WhereKnown, Rose}
 
 -- the files of a shelf before and after, where it tells them, and its count of faults
 pub record World : Type 0 where
@@ -39,4 +39,4 @@ room = 67108864
 -- the file has these bytes, where the files are told, and there is room for them
 pub record Fetched (w : World) (name bytes : List ℕ) : Type 0 where
   pub fits : length bytes ≤ room
-  pub is : Told w.files (λ m. file m name ≡ Some bytes)
+  pub is : WhereKnown w.files (λ m. file m name ≡ Some bytes)

@@ -13,8 +13,10 @@ const ROOM: u64 = 67_108_864;
 pub fn fetch<S: Shelf>(alloc: Global, file: &str, shelf: &mut S) -> Result<Vec<u8>, Stop>
     ensures held { S.files shelf.new ≡ S.files shelf.old }
     ensures count { S.faults shelf.old ≤ S.faults shelf.new }
-    ensures fetched { let w = world (S.files shelf.old) (S.faults shelf.old) (S.faults shelf.new) in IfOk result (λ bytes. Fetched w file.now bytes.items) }
-    ensures stopped { let w = world (S.files shelf.old) (S.faults shelf.old) (S.faults shelf.new) in IfErr result (StopsAtFile w (Unit {0}) file.now NoneBad) }
+    ensures fetched { let w = world (S.files shelf.old) (S.faults shelf.old) (S.faults shelf.new) in
+        IfOk result (λ bytes. Fetched w file.now bytes.items) }
+    ensures stopped { let w = world (S.files shelf.old) (S.faults shelf.old) (S.faults shelf.new) in
+        IfErr result (StopsAtFile w (Unit {0}) file.now NoneBad) }
 {
     let mut bytes = Vec::new(alloc);
     match shelf.fetch(file, ROOM, &mut bytes) {

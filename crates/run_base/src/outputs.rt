@@ -1,5 +1,5 @@
 ghost use Rattle.std.specs.Prelude.{◌≡◌, ◌≤◌, OnOk, OnErr, IfErr};
-ghost use Rattle.vtr_base.specs.Outside.{Told, IsHeld, AppendsPart, appended};
+ghost use Rattle.vtr_base.specs.Outside.{WhereKnown, IsOnShelf, AppendsPart, appended};
 ghost use Rattle.run_base.specs.Worlds.{World, world};
 ghost use Rattle.run_base.specs.Outputs.{wrote, WrotePart, change};
 ghost use Rattle.run_base.specs.Stops.{StopsAtOutput};
@@ -20,8 +20,10 @@ pub fn write_output<S: Shelf>(
 ) -> Result<(), Stop>
     ensures count { S.faults shelf.old ≤ S.faults shelf.new }
     ensures wrote { OnOk result (S.files shelf.new ≡ wrote file.now text.now (S.files shelf.old)) }
-    ensures part { OnErr result (WrotePart file.now text.now (S.files shelf.old) (S.files shelf.new)) }
-    ensures stopped { let w = change (S.files shelf.old) (S.files shelf.new) (S.faults shelf.old) (S.faults shelf.new) in IfErr result (StopsAtOutput w (Unit {0}) file.now) }
+    ensures part { OnErr result (WrotePart file.now text.now (S.files shelf.old)
+        (S.files shelf.new)) }
+    ensures stopped { let w = change (S.files shelf.old) (S.files shelf.new) (S.faults shelf.old)
+        (S.faults shelf.new) in IfErr result (StopsAtOutput w (Unit {0}) file.now) }
 {
     match shelf.begin(file) {
         Ok(()) => append_output(alloc, file, text, shelf),
@@ -37,11 +39,13 @@ fn append_output<S: Shelf>(
     text: &[u8],
     shelf: &mut S,
 ) -> Result<(), Stop>
-    requires { Told (S.files shelf.old) (λ m. IsHeld m file.now) }
+    requires { WhereKnown (S.files shelf.old) (λ m. IsOnShelf m file.now) }
     ensures count { S.faults shelf.old ≤ S.faults shelf.new }
     ensures ok { OnOk result (S.files shelf.new ≡ appended file.now text.now (S.files shelf.old)) }
-    ensures part { OnErr result (AppendsPart file.now text.now (S.files shelf.old) (S.files shelf.new)) }
-    ensures stopped { let w = change (S.files shelf.old) (S.files shelf.new) (S.faults shelf.old) (S.faults shelf.new) in IfErr result (StopsAtOutput w (Unit {0}) file.now) }
+    ensures part { OnErr result (AppendsPart file.now text.now (S.files shelf.old)
+        (S.files shelf.new)) }
+    ensures stopped { let w = change (S.files shelf.old) (S.files shelf.new) (S.faults shelf.old)
+        (S.faults shelf.new) in IfErr result (StopsAtOutput w (Unit {0}) file.now) }
 {
     let mut sink = ShelfSink::on(shelf, file);
     match sink.put(text) {

@@ -66,7 +66,8 @@ fn stop_line(alloc: Global, stop: &Stop) -> Result<Vec<u8>, AllocError>
 
 /// Prints the text of a status, and gives the status of the run.
 pub fn print<K: Sink>(out: &mut K, text: &[u8], status: Status) -> Status
-    ensures puts { Puts (shown (K.bytes out.old) (K.bytes out.new) (K.faults out.old) (K.faults out.new)) text.now status result }
+    ensures puts { Puts (shown (K.bytes out.old) (K.bytes out.new) (K.faults out.old)
+        (K.faults out.new)) text.now status result }
     ensures beside { K.beside out.new ≡ K.beside out.old }
 {
     match out.put(text) {

@@ -2,7 +2,7 @@
 use Rattle.std.proofs.Common.{◌≡◌, ◌<◌, ◌≤◌, inl, inr, ℕ, zero, suc, Bool, true, false, List, [], ◌∷◌, length, refl, sym, ◌∙◌, ap, subst, arith, Option, Some, None}
 use Rattle.std.specs.Prelude.{slice_get, IsSome}
 use Rattle.vtr_base.specs.Lists.{Has}
-use Rattle.vtr_base.specs.Outside.{Files, file, Told, IsHeldLonger}
+use Rattle.vtr_base.specs.Outside.{Files, file, WhereKnown, IsLongerOnShelf}
 use Rattle.arch_types.specs.declared.arch.Arch.{Arch}
 use Rattle.arch_types.specs.declared.block.PbType.{PbType}
 use Rattle.arch_files.specs.Files.{SpellsArch}
@@ -35,7 +35,7 @@ not_both v t f = cc
 untold : IsSome {T = Files} None → ⊥
 untold told = cc
 
-one_file : (files : Option Files) (name x y : List ℕ) → IsSome files → Told files (λ m. file m name ≡ Some x) → Told files (λ m. file m name ≡ Some y) → x ≡ y
+one_file : (files : Option Files) (name x y : List ℕ) → IsSome files → WhereKnown files (λ m. file m name ≡ Some x) → WhereKnown files (λ m. file m name ≡ Some y) → x ≡ y
 one_file None name x y told at_x at_y = absurd (untold told)
 one_file (Some m) name x y told at_x at_y = some_alike (sym at_x ∙ at_y)
 
@@ -43,11 +43,11 @@ one_file (Some m) name x y told at_x at_y = some_alike (sym at_x ∙ at_y)
 pub fetched_once : (w : World) (name x y : List ℕ) → IsCalm w → Fetched w name x → Fetched w name y → x ≡ y
 fetched_once w name x y calm at_x at_y = one_file w.files name x y calm.told at_x.is at_y.is
 
-present : (files : Option Files) (name x : List ℕ) → IsSome files → Told files (λ m. file m name ≡ Some x) → Told files (λ m. file m name ≡ None) → ⊥
+present : (files : Option Files) (name x : List ℕ) → IsSome files → WhereKnown files (λ m. file m name ≡ Some x) → WhereKnown files (λ m. file m name ≡ None) → ⊥
 present None name x told at none = untold told
 present (Some m) name x told at none = no_some x (sym at ∙ none)
 
-short : (files : Option Files) (name x : List ℕ) → IsSome files → length x ≤ room → Told files (λ m. file m name ≡ Some x) → Told files (λ m. IsHeldLonger m name room) → ⊥
+short : (files : Option Files) (name x : List ℕ) → IsSome files → length x ≤ room → WhereKnown files (λ m. file m name ≡ Some x) → WhereKnown files (λ m. IsLongerOnShelf m name room) → ⊥
 short None name x told fits at longer = untold told
 short (Some m) name x told fits at longer =
     let same : x ≡ longer.0 = some_alike (sym at ∙ longer.1) in

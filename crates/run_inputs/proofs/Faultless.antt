@@ -3,16 +3,16 @@ use Rattle.std.proofs.Common.{◌≡◌, ◌<◌, inl, inr, ℕ, Bool, true, fal
 use Rattle.std.specs.List.{AllPass}
 use Rattle.std.proofs.lemmas.List.Elements.{All-head, All-tail}
 use Rattle.vtr_base.specs.Lists.{Has}
-use Rattle.vtr_base.specs.Spans.{is_white, is_dark, Stops, IsSpan, AreWords}
+use Rattle.vtr_base.specs.Spans.{is_white, is_word_byte, Stops, IsSpan, AreWords}
 use Rattle.arch_types.specs.declared.block.PbType.{PbType}
 use Rattle.arch_types.specs.declared.block.Mode.{Mode}
 use Rattle.arch_types.specs.declared.block.Inter.{Inter}
 use Rattle.mode_edges.specs.declared.faults.EdgeError.{EdgeError}
 use Rattle.mode_edges.specs.declared.faults.EdgeError.TheVariants.{NoSuchPin, Width, WideMux, OutOfMemory}
 use Rattle.mode_edges.specs.declared.pin.LocalPin.{LocalPin}
-use Rattle.mode_edges.specs.declared.pin.Role.{Role}
-use Rattle.mode_edges.specs.declared.pin.Role.TheVariants.{Source, End}
-use Rattle.mode_edges.specs.Faults.{NamesNoPin, IsFaultless, IsFault, IsFirstFault, IsSound}
+use Rattle.mode_edges.specs.declared.pin.EdgeEnd.{EdgeEnd}
+use Rattle.mode_edges.specs.declared.pin.EdgeEnd.TheVariants.{Source, End}
+use Rattle.mode_edges.specs.Faults.{NamesNoPin, IsFaultless, IsFault, IsFirstFault, IsSoundMode}
 use Rattle.mode_edges.specs.PinWords.{Names, NamesAll, ReadsPins, HasOneReading, without_braces}
 
 not_both : (v : Bool) → v ≡ true → v ≡ false → ⊥
@@ -40,12 +40,12 @@ behind_passes p [] x h = h
 behind_passes p (a ∷ es) x h = behind_passes p es x (All-tail (λ v. p v ≡ true) a (es ++ x) h)
 
 -- white space alone has no word
-no_word : (text gap behind word rest : List ℕ) → AllPass is_white text → IsSpan is_white text gap behind → IsSpan is_dark behind word rest → 0 < length word → ⊥
+no_word : (text gap behind word rest : List ℕ) → AllPass is_white text → IsSpan is_white text gap behind → IsSpan is_word_byte behind word rest → 0 < length word → ⊥
 no_word text gap behind [] rest white s w some = omega arith
 no_word text gap behind (c ∷ cs) rest white s w some =
     let tail : AllPass is_white (c ∷ (cs ++ rest)) = subst (AllPass is_white) w.spelled (behind_passes is_white gap behind (subst (AllPass is_white) s.spelled white)) in
     let bright : is_white c ≡ true = All-head (λ v. is_white v ≡ true) c (cs ++ rest) tail in
-    let dark : not (is_white c) ≡ true = All-head (λ v. is_dark v ≡ true) c cs w.all in
+    let dark : not (is_white c) ≡ true = All-head (λ v. is_word_byte v ≡ true) c cs w.all in
     not_both (not (is_white c)) dark (ap not bright)
 
 one_list_of_words : (ws vs : List (List ℕ)) (text : List ℕ) → AreWords text ws → AreWords text vs → ws ≡ vs
@@ -54,19 +54,19 @@ one_list_of_words [] (v ∷ vs) text a b = absurd (no_word text b.0 b.1 v b.2 a 
 one_list_of_words (w ∷ ws) [] text a b = absurd (no_word text a.0 a.1 w a.2 b a.3 a.4 a.5)
 one_list_of_words (w ∷ ws) (v ∷ vs) text a b =
     let gaps = one_span is_white text a.0 a.1 b.0 b.1 a.3 b.3 in
-    let first = subst (λ behind. IsSpan is_dark behind v b.2) (sym gaps.1) b.4 in
-    let both = one_span is_dark a.1 w a.2 v b.2 a.4 first in
+    let first = subst (λ behind. IsSpan is_word_byte behind v b.2) (sym gaps.1) b.4 in
+    let both = one_span is_word_byte a.1 w a.2 v b.2 a.4 first in
     let more = one_list_of_words ws vs a.2 a.6 (subst (λ rest. AreWords rest vs) (sym both.1) b.6) in
     cc
 
-named_among : (block : PbType) (mode : Mode) (role : Role) (words : List (List ℕ)) (pins : List LocalPin) (word : List ℕ) → NamesAll block mode role words pins →
+named_among : (block : PbType) (mode : Mode) (role : EdgeEnd) (words : List (List ℕ)) (pins : List LocalPin) (word : List ℕ) → NamesAll block mode role words pins →
     Has words word → (ps : List LocalPin) × Names block mode role word ps
 named_among block mode role [] pins word a h = absurd h
 named_among block mode role (w ∷ ws) pins word a (inl is) = (a.0, subst (λ (t : List ℕ). Names block mode role t a.0) (sym is) a.2)
 named_among block mode role (w ∷ ws) pins word a (inr h) = named_among block mode role ws a.1 word a.3 h
 
 -- where all words name pins, none names none
-none_unnamed : (block : PbType) (mode : Mode) (role : Role) (text : List ℕ) (pins : List LocalPin) → ReadsPins block mode role text pins →
+none_unnamed : (block : PbType) (mode : Mode) (role : EdgeEnd) (text : List ℕ) (pins : List LocalPin) → ReadsPins block mode role text pins →
     NamesNoPin block mode role text → ⊥
 none_unnamed block mode role text pins reads no_pin =
     let here = no_pin.here in
@@ -87,5 +87,5 @@ fault_free one block mode inter (WideMux name) ok (wide, named) =
     elim wide.wide [ inl many ↦ narrow.0 many | inr other ↦ other (ap length outs ∙ narrow.1) ]
 fault_free one block mode inter OutOfMemory ok f = f
 
-pub sound_has_no_fault : HasOneReading → (block : PbType) (mode : Mode) (e : EdgeError) → IsSound block mode → IsFirstFault block mode e → ⊥
+pub sound_has_no_fault : HasOneReading → (block : PbType) (mode : Mode) (e : EdgeError) → IsSoundMode block mode → IsFirstFault block mode e → ⊥
 sound_has_no_fault one block mode e sound f = fault_free one block mode f.inter e (sound f.place f.inter f.is) f.fault

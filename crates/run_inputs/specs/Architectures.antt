@@ -91,8 +91,3 @@ TellsNoBlock name why = why ≡ codes "5 NoBlockType " ++ name
 -- a stop at bytes that spell no architecture
 abbrev pub IsRefusedArch : List ℕ → List ℕ → Stop → Type 0
 IsRefusedArch file bytes s = StopsAfter (Unit {0}) file (IsBadArch bytes) s
-
--- a stop at the block type of that number
-abbrev pub IsGraphStop : Arch → ℕ → List ℕ → Stop → Type 0
-IsGraphStop a number file s =
-    StopsAfter (Unit {0}) file (λ why. (root : PbType) → slice_get a.blocks number ≡ Some root → TellsUnexpanded root why) s

@@ -3,11 +3,11 @@ ghost use Rattle.arch_files.specs.Files.{SpellsArch, IsRefused};
 ghost use Rattle.arch_files.specs.Telling as arch;
 ghost use Rattle.run_base.specs.Worlds.{world};
 ghost use Rattle.run_base.specs.Stops.{StopsAfter};
-ghost use Rattle.run_inputs.specs.Architectures.{Expands, AreGraphs, IsGraphOf, StopsAtArch, IsRefusedArch, IsGraphStop, TellsFirstUnexpanded};
+ghost use Rattle.run_inputs.specs.Architectures.{Expands, AreGraphs, StopsAtArch, IsRefusedArch, TellsFirstUnexpanded};
 
 use arch_files::read_arch;
 use arch_types::Arch;
-use pb_expand::{PbGraph, expand};
+use pb_expand::{PbGraph, expand_all};
 use run_base::{Stop, fetch, refused_by};
 use std::alloc::Global;
 use vtr_base::Shelf;
@@ -23,8 +23,10 @@ pub struct Expanded {
 pub fn read_expanded<S: Shelf>(alloc: Global, file: &str, shelf: &mut S) -> Result<Expanded, Stop>
     ensures held { S.files shelf.new ≡ S.files shelf.old }
     ensures count { S.faults shelf.old ≤ S.faults shelf.new }
-    ensures reads { let w = world (S.files shelf.old) (S.faults shelf.old) (S.faults shelf.new) in IfOk result (λ x. Expands w file.now x.architecture x.graphs.items) }
-    ensures stopped { let w = world (S.files shelf.old) (S.faults shelf.old) (S.faults shelf.new) in IfErr result (StopsAtArch w file.now) }
+    ensures reads { let w = world (S.files shelf.old) (S.faults shelf.old) (S.faults shelf.new) in
+        IfOk result (λ x. Expands w file.now x.architecture x.graphs.items) }
+    ensures stopped { let w = world (S.files shelf.old) (S.faults shelf.old) (S.faults shelf.new) in
+        IfErr result (StopsAtArch w file.now) }
 {
     let bytes = fetch(alloc, file, shelf)?;
     let architecture = architecture_of(alloc, file, bytes.as_slice())?;
@@ -50,28 +52,11 @@ fn architecture_of(alloc: Global, file: &str, bytes: &[u8]) -> Result<Arch, Stop
 /// The graphs of all block types, in the order of the file.
 fn graphs_of(alloc: Global, file: &str, architecture: &Arch) -> Result<Vec<PbGraph>, Stop>
     ensures graphs { IfOk result (λ graphs. AreGraphs architecture.now graphs.items) }
-    ensures stopped { IfErr result (StopsAfter (Unit {0}) file.now (TellsFirstUnexpanded architecture.now)) }
+    ensures stopped { IfErr result (StopsAfter (Unit {0}) file.now
+        (TellsFirstUnexpanded architecture.now)) }
 {
-    let mut graphs = Vec::new(alloc);
-    for number in 0..architecture.blocks.len() {
-        let graph = graph_of(alloc, file, architecture, number)?;
-        graphs.push(graph)?;
-    }
-    Ok(graphs)
-}
-
-/// The graph of one block type.
-fn graph_of(alloc: Global, file: &str, architecture: &Arch, number: usize) -> Result<PbGraph, Stop>
-    requires { number < length architecture.now.blocks }
-    ensures graph { IfOk result (IsGraphOf architecture.now number) }
-    ensures stopped { IfErr result (IsGraphStop architecture.now number file.now) }
-{
-    architecture.law();
-    match expand(alloc, architecture, number as u32) {
-        Ok(graph) => {
-            graph.law();
-            Ok(graph)
-        }
-        Err(error) => Err(refused_by(alloc, file, &error)),
+    match expand_all(alloc, architecture) {
+        Ok(graphs) => Ok(graphs),
+        Err(refused) => Err(refused_by(alloc, file, &refused.error)),
     }
 }

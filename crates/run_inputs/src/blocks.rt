@@ -18,7 +18,8 @@ pub fn block_named(
     requires { AreGraphs expanded.now.architecture expanded.now.graphs.items }
     ensures named { IfOk result (NamesBlock expanded.now.architecture name.now) }
     ensures inside { IfOk result (λ number. number < length expanded.now.graphs.items) }
-    ensures stopped { IfErr result (StopsAfter (LacksBlock expanded.now.architecture name.now) file.now (TellsNoBlock name.now)) }
+    ensures stopped { IfErr result (StopsAfter (LacksBlock expanded.now.architecture name.now)
+        file.now (TellsNoBlock name.now)) }
 {
     match place_of(expanded.architecture.blocks.as_slice(), name) {
         Some(number) => Ok(number),
@@ -28,7 +29,8 @@ pub fn block_named(
 
 /// The first block type of that name.
 fn place_of(blocks: &[PbType], name: &str) -> Option<usize>
-    ensures { MatchOption result ((number : ℕ) → slice_get (names_of blocks.now) number ≡ Some name.now → ⊥) (IsFirstPlace (names_of blocks.now) name.now) }
+    ensures { MatchOption result ((number : ℕ) → slice_get (names_of blocks.now) number ≡ Some
+        name.now → ⊥) (IsFirstPlace (names_of blocks.now) name.now) }
 {
     for (number, block) in blocks.iter().enumerate() {
         if block.name.is(name.as_bytes()) {

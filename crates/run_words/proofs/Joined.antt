@@ -1,8 +1,8 @@
 -- What words come to with one word more.
 use Rattle.std.proofs.Common.{◌≡◌, ℕ, Bool, true, false, cond, not, List, [], ◌∷◌, ◌++◌, refl, sym, ap, ◌∙◌, append_assoc, append-nil}
 use Rattle.std.specs.Prelude.{filter, if◌then◌else◌}
-use Rattle.run_words.specs.declared.parts.Role.{Role}
-use Rattle.run_words.specs.declared.parts.Role.TheVariants as role
+use Rattle.run_words.specs.declared.parts.WordRole.{WordRole}
+use Rattle.run_words.specs.declared.parts.WordRole.TheVariants as role
 use Rattle.run_words.specs.Words.{Parts, parts_of, is_dashed, is_dashes, is_plain, has_dashes, before_dashes, behind_dashes, options_of, plain_of, role_of, with_role, with_word}
 
 -- with a `--` among them, one word more stands behind it
@@ -68,7 +68,7 @@ same_parts p q a b c =
     ∙ ap (λ o. record { ended = q.ended; options = o; plain = p.plain }) b
     ∙ ap (λ l. record { ended = q.ended; options = q.options; plain = l }) c
 
-in_role : (ws : List (List ℕ)) (w : List ℕ) (r : Role) → role_of (has_dashes ws) w ≡ r → parts_of (ws ++ w ∷ []) ≡ with_role r (parts_of ws) w →
+in_role : (ws : List (List ℕ)) (w : List ℕ) (r : WordRole) → role_of (has_dashes ws) w ≡ r → parts_of (ws ++ w ∷ []) ≡ with_role r (parts_of ws) w →
     parts_of (ws ++ w ∷ []) ≡ with_word (parts_of ws) w
 in_role ws w r is same = same ∙ sym (ap (λ x. with_role x (parts_of ws) w) is)
 

@@ -7,8 +7,8 @@ use Rattle.std.proofs.lemmas.Option.{slice_get_within, slice_get-get_or, get_or_
 use Rattle.vtr_base.specs.Lists.{IsFirstPlace}
 use Rattle.run_words.specs.declared.shape.Shape.{Shape}
 use Rattle.run_words.specs.declared.shape.WordKind.{WordKind}
-use Rattle.run_words.specs.declared.parts.Role.{Role}
-use Rattle.run_words.specs.declared.parts.Role.TheVariants as role
+use Rattle.run_words.specs.declared.parts.WordRole.{WordRole}
+use Rattle.run_words.specs.declared.parts.WordRole.TheVariants as role
 use Rattle.run_words.specs.declared.error.WordsError.{WordsError}
 use Rattle.run_words.specs.declared.error.WordsError.TheVariants.{Wrong, OutOfMemory}
 use Rattle.run_words.specs.Words.{Parts, parts_of, CanJoin, CanBe, role_of, with_role, with_word}
@@ -37,7 +37,7 @@ take_more rest place word there =
     ∙ ap (λ x. take place rest ++ x ∷ []) (get_or_from_slice_get rest place word word there)
 
 -- a plain word that can stand leaves no more of them than the command has
-room_for : (shape : Shape) (parts : Parts) (word : List ℕ) (r : Role) → CanBe r shape parts word → length parts.plain ≤ length shape.words.now →
+room_for : (shape : Shape) (parts : Parts) (word : List ℕ) (r : WordRole) → CanBe r shape parts word → length parts.plain ≤ length shape.words.now →
     length (with_role r parts word).plain ≤ length shape.words.now
 room_for shape parts word role.Ends can few = few
 room_for shape parts word role.Option can few = few

@@ -6,8 +6,8 @@ use Rattle.vtr_base.specs.Decimal.{IsNumber}
 use Rattle.run_words.specs.declared.shape.Shape.{Shape}
 use Rattle.run_words.specs.declared.shape.WordKind.{WordKind}
 use Rattle.run_words.specs.declared.shape.WordKind.TheVariants.{Input, Text, Number, Output}
-use Rattle.run_words.specs.declared.parts.Role.{Role}
-use Rattle.run_words.specs.declared.parts.Role.TheVariants as role
+use Rattle.run_words.specs.declared.parts.WordRole.{WordRole}
+use Rattle.run_words.specs.declared.parts.WordRole.TheVariants as role
 
 -- the word begins with `-` and has more
 abbrev pub is_dashed : List ℕ → Bool
@@ -55,7 +55,7 @@ abbrev pub parts_of : List (List ℕ) → Parts
 parts_of words = record { ended = has_dashes words; options = options_of words; plain = plain_of words }
 
 -- what a word is, behind words with or without a `--`
-abbrev pub role_of : Bool → List ℕ → Role
+abbrev pub role_of : Bool → List ℕ → WordRole
 role_of ended word =
     if ended then role.Plain else if is_dashes word then role.Ends else if is_dashed word then role.Option else role.Plain
 
@@ -94,7 +94,7 @@ pub record IsOption (shape : Shape) (options : List (List ℕ)) (word : List ℕ
   pub once : options ≡ []
 
 -- a word of this role can stand behind words that come to these parts
-abbrev pub CanBe : Role → Shape → Parts → List ℕ → Type 0
+abbrev pub CanBe : WordRole → Shape → Parts → List ℕ → Type 0
 CanBe role.Ends shape parts word = Unit {0}
 CanBe role.Option shape parts word = IsOption shape parts.options word
 CanBe role.Plain shape parts word = IsNextPlain shape.words.now parts.plain word
@@ -103,7 +103,7 @@ abbrev pub CanJoin : Shape → Parts → List ℕ → Type 0
 CanJoin shape parts word = CanBe (role_of parts.ended word) shape parts word
 
 -- the parts with one word more
-abbrev pub with_role : Role → Parts → List ℕ → Parts
+abbrev pub with_role : WordRole → Parts → List ℕ → Parts
 with_role role.Ends parts word = record parts { ended = true }
 with_role role.Option parts word = record parts { options = parts.options ++ word ∷ [] }
 with_role role.Plain parts word = record parts { plain = parts.plain ++ word ∷ [] }

@@ -8,7 +8,7 @@ use std::alloc::{AllocError, AllocFailed, Global};
 
 /// What a word behind a command's name is.
 #[derive(Clone, Copy)]
-pub(crate) enum Role {
+pub(crate) enum WordRole {
     /// The first `--`.
     Ends,
     /// A word before it that begins with `-` and isn't `-` alone.
@@ -42,9 +42,9 @@ impl<'w> Reading<'w> {
         ensures { IsTrue result ↔ CanJoin shape.now (parts_in self.now) word.now }
     {
         match role_behind(self.ended, word.as_bytes()) {
-            Role::Ends => true,
-            Role::Option => is_option(shape, self.options.as_slice(), word),
-            Role::Plain => fits_next(shape.words, self.plain.as_slice(), word),
+            WordRole::Ends => true,
+            WordRole::Option => is_option(shape, self.options.as_slice(), word),
+            WordRole::Plain => fits_next(shape.words, self.plain.as_slice(), word),
         }
     }
 
@@ -53,27 +53,27 @@ impl<'w> Reading<'w> {
         ensures { OnOk result (parts_in self.new ≡ with_word (parts_in self.old) word.now) }
     {
         match role_behind(self.ended, word.as_bytes()) {
-            Role::Ends => {
+            WordRole::Ends => {
                 self.ended = true;
                 Ok(())
             }
-            Role::Option => self.options.push(word),
-            Role::Plain => self.plain.push(word),
+            WordRole::Option => self.options.push(word),
+            WordRole::Plain => self.plain.push(word),
         }
     }
 }
 
 /// What a word is, behind words with or without a `--`.
-fn role_behind(ended: bool, word: &[u8]) -> Role
+fn role_behind(ended: bool, word: &[u8]) -> WordRole
     ensures { result ≡ role_of ended word.now }
 {
     if ended {
-        return Role::Plain;
+        return WordRole::Plain;
     }
     match word {
-        [b'-', b'-'] => Role::Ends,
-        [b'-', _, ..] => Role::Option,
-        _ => Role::Plain,
+        [b'-', b'-'] => WordRole::Ends,
+        [b'-', _, ..] => WordRole::Option,
+        _ => WordRole::Plain,
     }
 }
 

@@ -25,7 +25,8 @@ pub fn read_words<'w>(
     table: &[Shape<'_>],
     words: &'w [String],
 ) -> Result<Command<'w>, WordsError>
-    ensures read { IfOk result (λ c. IsCommand table.now (map string_bytes words.now) c.row (map (λ o. o.now) c.options.items) (map (λ w. w.now) c.plain.items)) }
+    ensures read { IfOk result (λ c. IsCommand table.now (map string_bytes words.now) c.row
+        (map (λ o. o.now) c.options.items) (map (λ w. w.now) c.plain.items)) }
     ensures refused { IfErr result (IsNoCommand table.now (map string_bytes words.now)) }
 {
     let [name, rest @ ..] = words else {
@@ -69,7 +70,8 @@ fn read_rest<'w>(
 
 /// The row of that name.
 fn row_named(table: &[Shape<'_>], name: &str) -> Option<usize>
-    ensures { MatchOption result ((row : ℕ) → slice_get (names_of table.now) row ≡ Some name.now → ⊥) (IsFirstPlace (names_of table.now) name.now) }
+    ensures { MatchOption result ((row : ℕ) → slice_get (names_of table.now) row ≡ Some name.now
+        → ⊥) (IsFirstPlace (names_of table.now) name.now) }
 {
     for (row, shape) in table.iter().enumerate() {
         if is_same(shape.name, name) {

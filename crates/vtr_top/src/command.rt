@@ -16,9 +16,13 @@ use vtr_base::{Shelf, Sink};
 /// Runs one command: reads its words, fetches and reads its files in turn, and prints its answer.
 /// The exit status of the process is the status's code.
 pub fn run<S: Shelf, K: Sink>(alloc: Global, words: &[String], shelf: &mut S, out: &mut K) -> Status
-    ensures answers { let w = world (S.files shelf.old) (S.faults shelf.old) (S.faults shelf.new) in Answers (map string_bytes words.now) w (shown (K.bytes out.old) (K.bytes out.new) (K.faults out.old) (K.faults out.new)) result }
+    ensures answers { let w = world (S.files shelf.old) (S.faults shelf.old) (S.faults shelf.new) in
+        Answers (map string_bytes words.now) w (shown (K.bytes out.old) (K.bytes out.new)
+        (K.faults out.old) (K.faults out.new)) result }
     ensures held { S.files shelf.new ≡ S.files shelf.old }
-    ensures complete { let w = world (S.files shelf.old) (S.faults shelf.old) (S.faults shelf.new) in IsValidRun (map string_bytes words.now) w → Completes (shown (K.bytes out.old) (K.bytes out.new) (K.faults out.old) (K.faults out.new)) result }
+    ensures complete { let w = world (S.files shelf.old) (S.faults shelf.old) (S.faults shelf.new)
+        in IsValidRun (map string_bytes words.now) w → Completes
+        (shown (K.bytes out.old) (K.bytes out.new) (K.faults out.old) (K.faults out.new)) result }
     ensures beside { K.beside out.new ≡ K.beside out.old }
 {
     match answer_of(alloc, words, shelf) {
@@ -29,8 +33,10 @@ pub fn run<S: Shelf, K: Sink>(alloc: Global, words: &[String], shelf: &mut S, ou
 
 /// The status and the text of the words, without printing it.
 fn answer_of<S: Shelf>(alloc: Global, words: &[String], shelf: &mut S) -> Result<Answer, AllocError>
-    ensures says { let w = world (S.files shelf.old) (S.faults shelf.old) (S.faults shelf.new) in IfOk result (λ a. Says (map string_bytes words.now) w a.status a.text.items) }
-    ensures complete { let w = world (S.files shelf.old) (S.faults shelf.old) (S.faults shelf.new) in IsValidRun (map string_bytes words.now) w → IfOk result (λ a. IsDoneOrMemory a.status) }
+    ensures says { let w = world (S.files shelf.old) (S.faults shelf.old) (S.faults shelf.new) in
+        IfOk result (λ a. Says (map string_bytes words.now) w a.status a.text.items) }
+    ensures complete { let w = world (S.files shelf.old) (S.faults shelf.old) (S.faults shelf.new)
+        in IsValidRun (map string_bytes words.now) w → IfOk result (λ a. IsDoneOrMemory a.status) }
     ensures held { S.files shelf.new ≡ S.files shelf.old }
 {
     let table = table();
@@ -47,8 +53,10 @@ fn answer_of<S: Shelf>(alloc: Global, words: &[String], shelf: &mut S) -> Result
 
 /// The status and the text of a task.
 fn do_task<S: Shelf>(alloc: Global, task: &Task<'_>, shelf: &mut S) -> Result<Answer, AllocError>
-    ensures says { let w = world (S.files shelf.old) (S.faults shelf.old) (S.faults shelf.new) in IfOk result (λ a. SaysTask task.now w a.status a.text.items) }
-    ensures complete { let w = world (S.files shelf.old) (S.faults shelf.old) (S.faults shelf.new) in IsValidTask task.now w → IfOk result (λ a. IsDoneOrMemory a.status) }
+    ensures says { let w = world (S.files shelf.old) (S.faults shelf.old) (S.faults shelf.new) in
+        IfOk result (λ a. SaysTask task.now w a.status a.text.items) }
+    ensures complete { let w = world (S.files shelf.old) (S.faults shelf.old) (S.faults shelf.new)
+        in IsValidTask task.now w → IfOk result (λ a. IsDoneOrMemory a.status) }
     ensures held { S.files shelf.new ≡ S.files shelf.old }
 {
     match task {
@@ -64,8 +72,11 @@ fn do_trace<S: Shelf>(
     prog: &str,
     shelf: &mut S,
 ) -> Result<Answer, AllocError>
-    ensures says { let w = world (S.files shelf.old) (S.faults shelf.old) (S.faults shelf.new) in IfOk result (λ a. SaysOf (AnswersTrace w arch.now block.now prog.now) (StopsTrace w arch.now block.now prog.now) a.status a.text.items) }
-    ensures complete { let w = world (S.files shelf.old) (S.faults shelf.old) (S.faults shelf.new) in IsValid w arch.now block.now prog.now → IfOk result (λ a. IsDoneOrMemory a.status) }
+    ensures says { let w = world (S.files shelf.old) (S.faults shelf.old) (S.faults shelf.new) in
+        IfOk result (λ a. SaysOf (AnswersTrace w arch.now block.now prog.now)
+        (StopsTrace w arch.now block.now prog.now) a.status a.text.items) }
+    ensures complete { let w = world (S.files shelf.old) (S.faults shelf.old) (S.faults shelf.new)
+        in IsValid w arch.now block.now prog.now → IfOk result (λ a. IsDoneOrMemory a.status) }
     ensures held { S.files shelf.new ≡ S.files shelf.old }
 {
     said(alloc, trace(alloc, arch, block, prog, shelf))
