@@ -1,0 +1,10 @@
+pub mod Cuts
+pub mod Naming
+pub mod Fielding
+pub mod Wording
+pub mod Gaps
+pub mod Valuing
+pub mod Giving
+pub mod Keeping
+pub mod Lining
+pub mod Reading

@@ -1,0 +1,10 @@
+pub mod Fields
+pub mod Lines
+pub mod Names
+pub mod Read
+pub mod Kept
+pub mod Sets
+pub mod Telling
+pub mod Texts
+pub mod Values
+pub mod Writing
