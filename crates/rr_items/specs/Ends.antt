@@ -2,7 +2,7 @@
 -- `switch_id`).
 use Rattle.std.specs.Prelude.{codes}
 use Rattle.elem_text.specs.declared.elem.Elem.{Elem}
-use Rattle.elem_reading.specs.HeldNumbers.{HasNumber}
+use Rattle.elem_reading.specs.AttributeNumbers.{HasNumber}
 use Rattle.rr_items.specs.declared.ends.EdgeEnds.{EdgeEnds}
 
 -- ids and places of a routing graph file are below 2^31

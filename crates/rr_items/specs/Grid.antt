@@ -2,7 +2,7 @@
 -- `width_offset`, `height_offset` and `layer`).
 use Rattle.std.specs.Prelude.{codes}
 use Rattle.elem_text.specs.declared.elem.Elem.{Elem}
-use Rattle.elem_reading.specs.HeldNumbers.{HasNumber}
+use Rattle.elem_reading.specs.AttributeNumbers.{HasNumber}
 use Rattle.rr_items.specs.declared.grid.GridPlace.{GridPlace}
 use Rattle.rr_items.specs.declared.grid.GridFault.{GridFault}
 use Rattle.rr_items.specs.declared.grid.GridFault.TheVariants.{Layer, Number}

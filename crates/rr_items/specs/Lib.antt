@@ -1,4 +1,5 @@
 pub mod Ends
+pub mod Features
 pub mod Grid
 pub mod Ground
 pub mod NodeItems

@@ -4,7 +4,7 @@ use Rattle.std.specs.Prelude.{◌≡◌, ◌≤◌, ◌⊎◌, ℕ, List, Option
 use Rattle.std.specs.Str.Parse.{IsNumeral}
 use Rattle.elem_text.specs.declared.elem.Elem.{Elem}
 use Rattle.elem_attrs.specs.Attributes.{HasAttribute, LacksAttribute}
-use Rattle.elem_reading.specs.HeldNumbers.{HasNumber}
+use Rattle.elem_reading.specs.AttributeNumbers.{HasNumber}
 use Rattle.elem_reading.specs.Kids.{first_kid}
 use Rattle.rr_items.specs.declared.nodes.NodeKind.{NodeKind}
 use Rattle.rr_items.specs.declared.nodes.NodeKind.TheVariants.{Source, Sink, Opin, Ipin, Chanx, Chany}

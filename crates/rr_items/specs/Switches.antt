@@ -3,7 +3,7 @@ use Rattle.std.specs.Prelude.{◌≡◌, ◌||◌, ℕ, Bool, List, codes}
 use Rattle.std.specs.Str.{bytes_eq}
 use Rattle.elem_text.specs.declared.elem.Elem.{Elem}
 use Rattle.elem_attrs.specs.Attributes.{attr_of}
-use Rattle.elem_reading.specs.HeldNumbers.{HasNumber}
+use Rattle.elem_reading.specs.AttributeNumbers.{HasNumber}
 use Rattle.rr_items.specs.declared.switches.Switch.{Switch}
 
 -- the kinds of switch that lead both ways
