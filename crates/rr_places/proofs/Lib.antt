@@ -1,0 +1,9 @@
+pub mod Classes
+pub mod Cutting
+pub mod Entries
+pub mod OneReading
+pub mod PinLists
+pub mod PinReading
+pub mod Reading
+pub mod TileReading
+pub mod Listing

@@ -1,0 +1,7 @@
+pub mod Keyed
+pub mod PinTexts
+pub mod PinElems
+pub mod Pins
+pub mod Reading
+pub mod Switches
+pub mod Types
