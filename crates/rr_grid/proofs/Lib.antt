@@ -1,0 +1,7 @@
+mod Found
+mod Kept
+mod Lent
+mod OneReading
+mod Sized
+mod Steps
+mod Whole
