@@ -1,0 +1,4 @@
+mod Listed
+mod OneList
+mod Sized
+mod Sorted

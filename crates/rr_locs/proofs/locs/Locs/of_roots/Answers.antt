@@ -1,0 +1,18 @@
+use Rattle.std.proofs.Common.{subst}
+use Rattle.std.specs.List.Sorted.{IsPermutation}
+use Rattle.rr_locs.proofs.Listed.{few_locs}
+use Rattle.rr_locs.proofs.Sorted.{sorted_locs}
+use Rattle.rr_locs.proofs.locs.Locs.of_roots.Goals as goal
+
+pub invariant_of-result : goal.invariant_of-result
+invariant_of-result c =
+    few_locs c.args.roots.now c.in_ok-locs.locs.items c.sort_unstable.new.self.items _ _ 1048576 c.in_ok-locs.locs.ok.0 c.sort_unstable.new.self.ok.0
+    c.sort_unstable.ensures.len c.in_ok-locs.ensures c.if-not-fit_limit.ensures
+
+pub returns : goal.returns
+returns c = (
+  sorted_locs c.args.roots.now c.requires c.sort_unstable.new.self.items
+      (subst (λ l. IsPermutation l c.sort_unstable.new.self.items) c.in_ok-locs.ensures c.sort_unstable.ensures.permutation) c.sort_unstable.ensures.sorted,
+  few_locs c.args.roots.now c.in_ok-locs.locs.items c.sort_unstable.new.self.items _ _ 1048576 c.in_ok-locs.locs.ok.0 c.sort_unstable.new.self.ok.0
+      c.sort_unstable.ensures.len c.in_ok-locs.ensures c.if-not-fit_limit.ensures,
+)

@@ -1,0 +1,33 @@
+-- The locations of a grid (VPR: x, y and sub block number).
+use Rattle.std.specs.Prelude.{◌≡◌, ◌<◌, ◌⊎◌, ℕ, List, map}
+use Rattle.list_laws.specs.Orders.{Once, Ordered}
+use Rattle.vtr_base.specs.Lists.{Has}
+use Rattle.rr_locs.specs.declared.roots.GridRoot.{GridRoot}
+use Rattle.rr_locs.specs.declared.roots.LocAt.{LocAt}
+
+-- no two roots stand at one place
+abbrev pub place_of : GridRoot → ℕ × ℕ
+place_of root = (root.x, root.y)
+
+abbrev pub AreApart : List GridRoot → Type 0
+AreApart roots = Once (map place_of roots)
+
+-- a location of one of the roots: a sub below the capacity, at the root's place
+pub record IsLoc (roots : List GridRoot) (loc : LocAt) : Type 0 where
+  pub root : GridRoot
+  pub has : Has roots root
+  pub x : loc.x ≡ root.x
+  pub y : loc.y ≡ root.y
+  pub tile : loc.tile ≡ root.tile
+  pub sub : loc.sub < root.capacity
+
+-- by x, then y, then sub
+abbrev pub Before : LocAt → LocAt → Type 0
+Before a b =
+    (a.x < b.x) ⊎ ((a.x ≡ b.x) × ((a.y < b.y) ⊎ ((a.y ≡ b.y) × (a.sub < b.sub))))
+
+-- the locations of the roots, each once, in ascending order
+pub record AreLocs (roots : List GridRoot) (locs : List LocAt) : Type 0 where
+  pub ascend : Ordered Before locs
+  pub only : (loc : LocAt) → Has locs loc → IsLoc roots loc
+  pub all : (loc : LocAt) → IsLoc roots loc → Has locs loc
