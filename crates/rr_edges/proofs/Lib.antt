@@ -1,0 +1,3 @@
+mod EachEdge
+mod AllEdges
+mod Walk

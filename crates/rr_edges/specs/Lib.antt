@@ -1,0 +1,4 @@
+pub mod EdgeItems
+pub mod FileEdges
+pub mod Joints
+pub mod Known
