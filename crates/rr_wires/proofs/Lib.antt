@@ -1,0 +1,9 @@
+mod Keys
+mod Lows
+mod Orders
+mod AddedNodes
+mod NodeSteps
+mod OwnedPairs
+mod WireLists
+mod SoundGraphs
+mod OneGraph
