@@ -1,5 +1,10 @@
+ghost use Rattle.std.specs.Prelude.{◌≡◌, IfOk};
+
 use std::alloc::{AllocError, Global};
 use std::collections::BTreeMap;
+
+/// Files by their names.
+pub type FileMap = BTreeMap<String, Vec<u8>>;
 
 /// One run of a command: what it is given, and what it must answer.
 #[derive(Drop)]
@@ -8,7 +13,7 @@ pub struct Case {
     /// The line of the stored cases at which the case begins.
     pub line: u64,
     pub words: Vec<String>,
-    pub files: BTreeMap<String, Vec<u8>>,
+    pub files: FileMap,
     /// The numbers of the shelf's calls that fail, from 0.
     pub shelf_fails: Vec<u64>,
     /// The numbers of the sink's calls that fail, from 0.
@@ -18,7 +23,7 @@ pub struct Case {
     /// What is to be printed.
     pub printed: Vec<u8>,
     /// The files that are to be written, or changed. Every other file is to stay as it was.
-    pub written: BTreeMap<String, Vec<u8>>,
+    pub written: FileMap,
 }
 
 impl Case {
@@ -35,4 +40,31 @@ impl Case {
             written: BTreeMap::new(alloc),
         })
     }
+
+    /// The same case, told at another line.
+    pub fn at_line(&self, alloc: Global, line: u64) -> Result<Case, AllocError>
+        ensures line { IfOk result (λ made. made.line ≡ line) }
+        ensures status { IfOk result (λ made. made.status ≡ self.now.status) }
+    {
+        Ok(Case {
+            name: self.name.clone()?,
+            line,
+            words: self.words.clone()?,
+            files: copy_of(alloc, &self.files)?,
+            shelf_fails: self.shelf_fails.clone()?,
+            sink_fails: self.sink_fails.clone()?,
+            status: self.status,
+            printed: self.printed.clone()?,
+            written: copy_of(alloc, &self.written)?,
+        })
+    }
+}
+
+/// The same files.
+pub fn copy_of(alloc: Global, files: &FileMap) -> Result<FileMap, AllocError> {
+    let mut copy = BTreeMap::new(alloc);
+    for (name, bytes) in files.iter() {
+        copy.insert(name.clone()?, bytes.clone()?)?;
+    }
+    Ok(copy)
 }

@@ -1,7 +1,6 @@
-use crate::case::Case;
+use crate::case::{Case, copy_of};
 use shelf_kit::{MemShelf, MemSink};
 use std::alloc::{AllocError, Global};
-use std::collections::BTreeMap;
 use vtr_top::run;
 
 /// What the sink has room for.
@@ -65,15 +64,4 @@ fn shown(alloc: Global, name: &str, bytes: &[u8]) -> Result<String, AllocError> 
         Ok(text) => format!(in alloc; "{name}: {text:?}"),
         Err(_) => format!(in alloc; "{name}: bytes that aren't UTF-8"),
     }
-}
-
-fn copy_of(
-    alloc: Global,
-    files: &BTreeMap<String, Vec<u8>>,
-) -> Result<BTreeMap<String, Vec<u8>>, AllocError> {
-    let mut copy = BTreeMap::new(alloc);
-    for (name, bytes) in files.iter() {
-        copy.insert(name.clone()?, bytes.clone()?)?;
-    }
-    Ok(copy)
 }

@@ -6,6 +6,7 @@
 mod case;
 mod check;
 mod parse;
+mod table;
 mod text;
 
 use anyhow::{Context, Result, bail};

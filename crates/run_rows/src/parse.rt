@@ -1,7 +1,8 @@
 use crate::case::Case;
+use crate::table::Table;
 use crate::text::replace_first;
 use anyhow::{Context, Result, bail};
-use std::alloc::Global;
+use std::alloc::{AllocError, Global};
 use std::rt::Files;
 use std::{fs, mem};
 
@@ -24,6 +25,8 @@ pub struct Parser {
     target: Target,
     /// What a line `old` looks for, until its line `new` comes.
     old: String,
+    /// What the rows of the case change, if it is a table, and isn't run itself.
+    table: Option<Table>,
 }
 
 impl Parser {
@@ -34,22 +37,28 @@ impl Parser {
             case: None,
             target: Target::Nowhere,
             old: String::new(alloc),
+            table: None,
         }
     }
 
     /// The case that the last lines say.
     pub fn into_case(self) -> Option<Case> {
-        self.case
+        match self.table {
+            Some(_) => None,
+            None => self.case,
+        }
     }
 
-    /// Takes one line; a line that begins a case answers the case before it.
+    /// Takes one line. One that begins a case answers the case before it, unless that is a table;
+    /// a row of a table answers its own case.
     pub fn line<R: Files + AllocGlobal>(&mut self, rt: &R, line: &str) -> Result<Option<Case>> {
         self.number = self.number.saturating_add(1);
         let (word, rest) = line.split_once(' ').unwrap_or((line, ""));
         if word == "case" {
-            let next = Case::new(self.alloc, rest, self.number)?;
-            self.target = Target::Nowhere;
-            return Ok(mem::replace(&mut self.case, Some(next)));
+            return Ok(self.begin(rest)?);
+        }
+        if word == "try" {
+            return self.row(rest).map(Some);
         }
         if word.is_empty() || word == "#" {
             return Ok(None);
@@ -62,6 +71,27 @@ impl Parser {
         }
         .context(format_args!("line {number} of the cases"))?;
         Ok(None)
+    }
+
+    /// A case of this name begins.
+    fn begin(&mut self, name: &str) -> Result<Option<Case>, AllocError> {
+        let next = Case::new(self.alloc, name, self.number)?;
+        self.target = Target::Nowhere;
+        let before = mem::replace(&mut self.case, Some(next));
+        match mem::replace(&mut self.table, None) {
+            Some(_) => Ok(None),
+            None => Ok(before),
+        }
+    }
+
+    /// The case that a row of the table makes.
+    fn row(&self, row: &str) -> Result<Case> {
+        let number = self.number;
+        match (&self.case, &self.table) {
+            (Some(case), Some(table)) => table.row(self.alloc, case, number, row),
+            _ => bail!("no table has begun"),
+        }
+        .context(format_args!("line {number} of the cases"))
     }
 
     /// A line that says one thing of the case.
@@ -80,6 +110,7 @@ impl Parser {
             "shelf-fails" => case.shelf_fails.push(rest.parse::<u64>()?)?,
             "sink-fails" => case.sink_fails.push(rest.parse::<u64>()?)?,
             "prints" => self.target = Target::Printed,
+            "table" => self.table = Some(Table::of_line(self.alloc, rest)?),
             "file" => {
                 let name = String::from_str(self.alloc, rest)?;
                 case.files.insert(name, Vec::new(self.alloc))?;

@@ -1,3 +1,5 @@
+ghost use Rattle.std.specs.Prelude.{◌<◌, IfSome, length};
+
 use std::alloc::AllocError;
 
 /// Replaces the first place of `old` in the text by `new`; whether there is one.
@@ -20,7 +22,9 @@ pub fn replace_first(text: &mut Vec<u8>, old: &[u8], new: &[u8]) -> Result<bool,
 }
 
 /// The first place at which `part` stands in the text; a part of no bytes stands nowhere.
-fn find(text: &[u8], part: &[u8]) -> Option<usize> {
+pub fn find(text: &[u8], part: &[u8]) -> Option<usize>
+    ensures inside { IfSome result (λ at. at < length text.now) }
+{
     if part.is_empty() {
         return None;
     }
