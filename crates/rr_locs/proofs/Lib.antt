@@ -1,4 +1,3 @@
 mod Listed
 mod OneList
-mod Sized
 mod Sorted

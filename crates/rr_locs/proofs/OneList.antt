@@ -1,7 +1,7 @@
 -- Roots have one list of locations.
 use Rattle.std.proofs.Common.{◌≡◌, ◌<◌, ◌⊎◌, List, inl, inr, arith}
 use Rattle.list_laws.proofs.Sorting.{one_sorting}
-use Rattle.rr_locs.specs.declared.roots.GridRoot.{GridRoot}
+use Rattle.rr_locs.specs.declared.roots.TileRoot.{TileRoot}
 use Rattle.rr_locs.specs.declared.roots.LocAt.{LocAt}
 use Rattle.rr_locs.specs.Places.{Before, AreLocs}
 
@@ -29,7 +29,7 @@ along a b c (inl p) (inr q) = inl (omega (arith, p, q.0))
 along a b c (inr p) (inl q) = inl (omega (arith, p.0, q))
 along a b c (inr p) (inr q) = inr (omega (arith, p.0, q.0), inner_along a b c p.1 q.1)
 
-pub one_locs : (roots : List GridRoot) (xs ys : List LocAt) → AreLocs roots xs → AreLocs roots ys → xs ≡ ys
+pub one_locs : (roots : List TileRoot) (xs ys : List LocAt) → AreLocs roots xs → AreLocs roots ys → xs ≡ ys
 one_locs roots xs ys p q =
     one_sorting Before strict along xs ys p.ascend q.ascend
     (record { forth = λ loc has. q.all loc (p.only loc has); back = λ loc has. p.all loc (q.only loc has) })

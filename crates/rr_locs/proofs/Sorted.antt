@@ -15,7 +15,7 @@ use Rattle.vtr_base.specs.Lists.{Has}
 use Rattle.list_laws.specs.Orders.{Once, Ordered}
 use Rattle.list_laws.proofs.Members.{has_at, at_has}
 use Rattle.rr_locs.specs.declared.roots.LocAt.{LocAt}
-use Rattle.rr_locs.specs.declared.roots.GridRoot.{GridRoot}
+use Rattle.rr_locs.specs.declared.roots.TileRoot.{TileRoot}
 use Rattle.rr_locs.specs.Listing.{locs_of}
 use Rattle.rr_locs.specs.Places.{AreApart, IsLoc, Before, AreLocs}
 use Rattle.rr_locs.proofs.Listed.{listed_is_loc, loc_is_listed, one_tile, listed_once}
@@ -157,7 +157,7 @@ ascending (x ∷ xs) sorted apart one_tile = (
   ascending xs (sorted_tail x xs sorted) (IsDistinct-tail same_place x xs apart) (λ a b h k. one_tile a b (inr h) (inr k)),
 )
 
-pub sorted_locs : (roots : List GridRoot) → AreApart roots → (ys : List LocAt) → IsPermutation (flat_map locs_of roots) ys → IsSorted by_place ys → AreLocs roots ys
+pub sorted_locs : (roots : List TileRoot) → AreApart roots → (ys : List LocAt) → IsPermutation (flat_map locs_of roots) ys → IsSorted by_place ys → AreLocs roots ys
 sorted_locs roots apart ys moved sorted = record {
   ascend = ascending ys sorted (IsDistinct-IsPermutation same_place flips (flat_map locs_of roots) ys moved (distinct_of (flat_map locs_of roots) (listed_once roots apart)))
       (λ a b has_a has_b x y. one_tile roots apart a b (is_loc a has_a) (is_loc b has_b) x y);

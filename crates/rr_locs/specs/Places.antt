@@ -2,19 +2,19 @@
 use Rattle.std.specs.Prelude.{◌≡◌, ◌<◌, ◌⊎◌, ℕ, List, map}
 use Rattle.list_laws.specs.Orders.{Once, Ordered}
 use Rattle.vtr_base.specs.Lists.{Has}
-use Rattle.rr_locs.specs.declared.roots.GridRoot.{GridRoot}
+use Rattle.rr_locs.specs.declared.roots.TileRoot.{TileRoot}
 use Rattle.rr_locs.specs.declared.roots.LocAt.{LocAt}
 
 -- no two roots stand at one place
-abbrev pub place_of : GridRoot → ℕ × ℕ
+abbrev pub place_of : TileRoot → ℕ × ℕ
 place_of root = (root.x, root.y)
 
-abbrev pub AreApart : List GridRoot → Type 0
+abbrev pub AreApart : List TileRoot → Type 0
 AreApart roots = Once (map place_of roots)
 
 -- a location of one of the roots: a sub below the capacity, at the root's place
-pub record IsLoc (roots : List GridRoot) (loc : LocAt) : Type 0 where
-  pub root : GridRoot
+pub record IsLoc (roots : List TileRoot) (loc : LocAt) : Type 0 where
+  pub root : TileRoot
   pub has : Has roots root
   pub x : loc.x ≡ root.x
   pub y : loc.y ≡ root.y
@@ -27,7 +27,7 @@ Before a b =
     (a.x < b.x) ⊎ ((a.x ≡ b.x) × ((a.y < b.y) ⊎ ((a.y ≡ b.y) × (a.sub < b.sub))))
 
 -- the locations of the roots, each once, in ascending order
-pub record AreLocs (roots : List GridRoot) (locs : List LocAt) : Type 0 where
+pub record AreLocs (roots : List TileRoot) (locs : List LocAt) : Type 0 where
   pub ascend : Ordered Before locs
   pub only : (loc : LocAt) → Has locs loc → IsLoc roots loc
   pub all : (loc : LocAt) → IsLoc roots loc → Has locs loc

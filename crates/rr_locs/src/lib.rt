@@ -6,10 +6,8 @@ mod laws;
 mod listing;
 mod locs;
 mod roots;
-mod size;
 
 pub use error::LocsError;
 pub use laws::one_list;
 pub use locs::Locs;
-pub use roots::{GridRoot, LocAt};
-pub use size::{GridSize, GridSpot, grid_size};
+pub use roots::{LocAt, TileRoot};

@@ -2,11 +2,11 @@ ghost use Rattle.std.specs.Prelude.{◌≡◌, ◌≤◌, ◌<◌, ◌+◌, ◌+
 ghost use Rattle.std.specs.List.{sum_by, flat_map};
 ghost use Rattle.rr_locs.specs.Listing.{locs_of};
 
-use crate::roots::{GridRoot, LocAt};
+use crate::roots::{LocAt, TileRoot};
 use std::alloc::{AllocError, Global};
 
 /// Whether the capacities sum to 2^20 at most.
-pub(crate) fn fit_limit(roots: &[GridRoot]) -> bool
+pub(crate) fn fit_limit(roots: &[TileRoot]) -> bool
     ensures { MatchBool result (sum_by (λ root. root.capacity) roots.now ≤ 2 ^ 20)
         (2 ^ 20 < sum_by (λ root. root.capacity) roots.now) }
 {
@@ -21,7 +21,7 @@ pub(crate) fn fit_limit(roots: &[GridRoot]) -> bool
 }
 
 /// The locations of each root, root by root.
-pub(crate) fn all_locs(alloc: Global, roots: &[GridRoot]) -> Result<Vec<LocAt>, AllocError>
+pub(crate) fn all_locs(alloc: Global, roots: &[TileRoot]) -> Result<Vec<LocAt>, AllocError>
     ensures { IfOk result (λ locs. locs.items ≡ flat_map locs_of roots.now) }
 {
     let mut locs = Vec::new(alloc);
@@ -32,7 +32,7 @@ pub(crate) fn all_locs(alloc: Global, roots: &[GridRoot]) -> Result<Vec<LocAt>, 
 }
 
 /// Adds the locations of one root.
-fn add_locs(locs: &mut Vec<LocAt>, root: GridRoot) -> Result<(), AllocError>
+fn add_locs(locs: &mut Vec<LocAt>, root: TileRoot) -> Result<(), AllocError>
     ensures { OnOk result (locs.new.items ≡ locs.old.items ++ locs_of root) }
 {
     for sub in 0..root.capacity {

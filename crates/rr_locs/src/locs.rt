@@ -4,7 +4,7 @@ ghost use Rattle.rr_locs.specs.Places.{AreApart, AreLocs};
 
 use crate::error::LocsError;
 use crate::listing::{all_locs, fit_limit};
-use crate::roots::{GridRoot, LocAt};
+use crate::roots::{LocAt, TileRoot};
 use std::alloc::Global;
 use std::marker::Model;
 
@@ -28,7 +28,7 @@ impl Model for Locs {
 
 impl Locs {
     /// The locations of these roots, of which no two stand at one place. It takes n log n time.
-    pub fn of_roots(alloc: Global, roots: &[GridRoot]) -> Result<Locs, LocsError>
+    pub fn of_roots(alloc: Global, roots: &[TileRoot]) -> Result<Locs, LocsError>
         requires { AreApart roots.now }
         ensures { MatchResult result
             (λ locs. AreLocs roots.now locs × (length locs ≤ 2 ^ 20))

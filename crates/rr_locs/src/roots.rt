@@ -1,6 +1,6 @@
 /// The root of a block in the grid: its place, its tile, and how many sub blocks the tile has.
 #[derive(Clone, Copy, Debug, PartialEq, Eq)]
-pub struct GridRoot {
+pub struct TileRoot {
     pub x: u32,
     pub y: u32,
     pub tile: u32,
