@@ -5,8 +5,6 @@ mod cut;
 mod flow;
 mod graph;
 mod placing;
-#[cfg(test)]
-mod tests;
 mod trails;
 
 pub use flow::disjoint_paths;

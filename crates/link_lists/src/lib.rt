@@ -6,8 +6,6 @@ mod bits;
 mod heads;
 mod lists;
 mod queue;
-#[cfg(test)]
-mod tests;
 
 pub use lists::Lists;
 pub use queue::BucketQueue;
