@@ -4,7 +4,7 @@
 #![tactic(auto)]
 
 use anyhow::Result;
-use run_base::{Stop, fetch, write_output};
+use run_base::{OutputText, PutError, Stop, Whole, fetch, fronts_of_pieces, write_output};
 use shelf_kit::{CalmShelf, MemShelf, MemSink, RealShelf};
 use std::alloc::Global;
 use std::collections::BTreeMap;
@@ -18,6 +18,10 @@ fn main(rt: HostRuntime) -> Result<()> {
     for call in 0..3 {
         let told = with_failing(rt.alloc(), call)?;
         println!(rt; "call {call} fails: {told}")?;
+    }
+    for call in 0..5 {
+        let told = in_pieces(rt.alloc(), call)?;
+        println!(rt; "call {call} of three pieces fails: {told}")?;
     }
     let mut shelf = RealShelf::new(&rt);
     let told = written_and_fetched(rt.alloc(), &mut shelf, "o", TEXT)?;
@@ -35,6 +39,25 @@ fn main(rt: HostRuntime) -> Result<()> {
     Ok(())
 }
 
+/// A piece, put three times.
+struct Pieces<'t> {
+    piece: &'t [u8],
+}
+
+impl<'t> OutputText for Pieces<'t> {
+    ghost use Rattle.std.specs.Prelude.{◌++◌};
+
+    ghost text = { λ t. t.piece.now ++ (t.piece.now ++ t.piece.now) };
+
+    fn put_on<K: Sink>(&self, _alloc: Global, sink: &mut K) -> Result<(), PutError> {
+        fronts_of_pieces();
+        sink.put(self.piece)?;
+        sink.put(self.piece)?;
+        sink.put(self.piece)?;
+        Ok(())
+    }
+}
+
 /// What comes of printing four bytes thrice, where the sink has room for five, and its first call
 /// fails.
 fn with_little_room(alloc: Global) -> Result<String> {
@@ -49,10 +72,20 @@ fn with_little_room(alloc: Global) -> Result<String> {
 
 /// What comes of writing where the call of this number fails. The file holds something before.
 fn with_failing(alloc: Global, call: u64) -> Result<String> {
+    written_over(alloc, call, &Whole { bytes: TEXT })
+}
+
+/// The same of a text of three pieces.
+fn in_pieces(alloc: Global, call: u64) -> Result<String> {
+    written_over(alloc, call, &Pieces { piece: b"ab" })
+}
+
+/// What comes of writing a text over a file, where the call of this number fails.
+fn written_over<W: OutputText>(alloc: Global, call: u64, text: &W) -> Result<String> {
     let mut files = BTreeMap::new(alloc);
     files.insert(String::from_str(alloc, "o")?, b"old".to_vec(alloc)?)?;
     let mut shelf = MemShelf::new(alloc, files, vec![in alloc; call]?);
-    let code = code_of(&write_output(alloc, "o", TEXT, &mut shelf));
+    let code = code_of(&write_output(alloc, "o", text, &mut shelf));
     let told = match shelf.files.get("o") {
         Some(bytes) => {
             let text = str::from_utf8(bytes)?;
@@ -70,7 +103,7 @@ fn written_and_fetched<S: Shelf>(
     file: &str,
     text: &[u8],
 ) -> Result<String> {
-    let code = code_of(&write_output(alloc, file, text, shelf));
+    let code = code_of(&write_output(alloc, file, &Whole { bytes: text }, shelf));
     match fetch(alloc, file, shelf) {
         Ok(bytes) => {
             let text = str::from_utf8(bytes.as_slice())?;

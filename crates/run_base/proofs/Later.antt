@@ -1,10 +1,10 @@
 -- A stop at a later input, told of the whole run.
-use Rattle.std.proofs.Common.{◌≡◌, ◌≤◌, ◌<◌, ◌⊎◌, inl, inr, ℕ, List, Option, Some, None, refl, sym, ap, subst, ◌∙◌, arith}
-use Rattle.vtr_base.specs.Outside.{Files, Rose, WhereKnown}
+use Rattle.std.proofs.Common.{◌≡◌, ◌≤◌, inl, inr, ℕ, List, Option, subst, arith}
+use Rattle.vtr_base.specs.Outside.{Files, Rose}
 use Rattle.run_base.specs.declared.stop.Stop.{Stop}
 use Rattle.run_base.specs.declared.stop.Stop.TheVariants.{Refused, Outside, Memory}
-use Rattle.run_base.specs.Worlds.{World, world, Failed, Fetched}
-use Rattle.run_base.specs.Stops.{IsMissing, IsTooLong, HasBadBytes, IsBadFile, StopsAtFile, StopsAfter, NoneBad}
+use Rattle.run_base.specs.Worlds.{world, Fetched}
+use Rattle.run_base.specs.Stops.{IsBadFile, StopsAtFile, NoneBad}
 
 pub rose_later : (a b c : ℕ) → a ≤ b → Rose b c → Rose a c
 rose_later a b c early (inl more) = inl (omega arith)

@@ -1,5 +1,5 @@
 -- Why a run stops before its answer.
-use Rattle.std.specs.Prelude.{◌≡◌, ◌⊎◌, ◌++◌, ℕ, Bool, false, List, None, codes}
+use Rattle.std.specs.Prelude.{◌≡◌, ◌⊎◌, ℕ, Bool, false, List, None, codes}
 use Rattle.vtr_base.specs.Outside.{file, WhereKnown, IsLongerOnShelf}
 use Rattle.vtr_base.specs.declared.outside.ShelfError.{ShelfError}
 use Rattle.vtr_base.specs.declared.outside.ShelfError.TheVariants as shelf

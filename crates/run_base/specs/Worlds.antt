@@ -1,6 +1,6 @@
 -- What a run meets and what it leaves: the files of its shelf, with the count of faults, and the
 -- bytes of its sink.
-use Rattle.std.specs.Prelude.{◌≡◌, ◌≤◌, ◌++◌, ℕ, List, Option, Some, length}
+use Rattle.std.specs.Prelude.{◌≡◌, ◌≤◌, ℕ, List, Option, Some, length}
 use Rattle.vtr_base.specs.Outside.{Files, file, WhereKnown, Rose}
 
 -- the files of a shelf before and after, where it tells them, and its count of faults

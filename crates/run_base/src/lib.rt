@@ -5,6 +5,7 @@
 mod answer;
 mod inputs;
 mod outputs;
+mod pieces;
 mod printing;
 mod status;
 mod stop;
@@ -12,6 +13,7 @@ mod stop;
 pub use answer::Answer;
 pub use inputs::fetch;
 pub use outputs::write_output;
+pub use pieces::{OutputText, PutError, Whole, fronts_of_pieces};
 pub use printing::{memory_line, print, said, words_line};
 pub use status::Status;
 pub use stop::{Stop, refused, refused_by};
