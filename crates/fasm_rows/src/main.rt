@@ -1,11 +1,14 @@
 //! Reads FASM texts, as stored rows give them, and tells where what a text sets, or the refusal,
 //! isn't what its row wants. In a row `| TEXT` is a line of the text, `= NAME BIT` a bit that it
-//! sets, in order, and `! REFUSAL` what is told of it; an empty line ends the row.
+//! sets, in order, and `! REFUSAL` what is told of it; an empty line ends the row. Then it
+//! writes lines on a sink whose calls fail in turn.
 #![tactic(auto)]
 
+mod lines;
 mod row;
 
 use anyhow::{Context, Result, bail};
+use lines::lines_over;
 use row::Row;
 use std::io::{BufRead, BufReader};
 
@@ -29,6 +32,10 @@ fn main(rt: HostRuntime) -> Result<()> {
         row = Row::new(rt.alloc());
     }
     println!(rt; "{count} rows, {failed} differ")?;
+    for call in 0..4 {
+        let told = lines_over(rt.alloc(), call)?;
+        println!(rt; "call {call} of three lines fails: {told}")?;
+    }
     if failed > 0 {
         bail!("some rows differ");
     }

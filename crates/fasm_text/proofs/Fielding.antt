@@ -23,7 +23,7 @@ no_low inside high low cut none lo hi (inl one) = not_cut 58 inside high low one
 no_low inside high low cut none lo hi (inr two) =
     none lo (subst (λ t. IsBitNumber t lo) (same_cut 58 inside two.0 two.1 high low two.2 cut).1 two.4)
 
-one_range : (inside : List ℕ) (lo hi bottom top : ℕ) → IsRange inside lo hi → IsRange inside bottom top → (lo ≡ bottom) × (hi ≡ top)
+pub one_range : (inside : List ℕ) (lo hi bottom top : ℕ) → IsRange inside lo hi → IsRange inside bottom top → (lo ≡ bottom) × (hi ≡ top)
 one_range inside lo hi bottom top (inl a) (inl b) =
     let same = one_bit inside lo bottom a.1 b.1 in
     (same, a.2 ∙ same ∙ sym b.2)

@@ -11,7 +11,7 @@ const LAST_BIT: u64 = 1_048_575;
 
 /// The bits of a field, from the lowest to the highest.
 #[derive(Clone, Copy)]
-pub(crate) struct Range {
+pub struct Range {
     pub lo: u32,
     pub hi: u32,
 }
@@ -65,8 +65,8 @@ fn bracketed(behind: &[u8]) -> Option<Range>
     read_range(inside)
 }
 
-/// One bit, or the highest and the lowest.
-fn read_range(inside: &[u8]) -> Option<Range>
+/// The bits that stand in brackets behind a name: one bit, or the highest and the lowest.
+pub fn read_range(inside: &[u8]) -> Option<Range>
     ensures { MatchOption result ((lo hi : ℕ) → IsRange inside.now lo hi → ⊥)
         (λ r. IsRange inside.now r.lo r.hi) }
 {
@@ -83,8 +83,8 @@ fn read_range(inside: &[u8]) -> Option<Range>
     }
 }
 
-/// The number of a bit, in decimal digits.
-fn bit_number(text: &[u8]) -> Option<u32>
+/// The number of a bit: decimal digits of any length, of a number below 2^20.
+pub fn bit_number(text: &[u8]) -> Option<u32>
     ensures { MatchOption result ((n : ℕ) → IsBitNumber text.now n → ⊥)
         (λ n. IsBitNumber text.now n) }
 {

@@ -1,4 +1,5 @@
 ghost use Rattle.std.specs.Prelude.{◌≡◌, ℕ, List};
+ghost use Rattle.fasm_text.specs.Fields.{IsRange};
 ghost use Rattle.fasm_text.specs.declared.error.FasmError.{FasmError as Refusal};
 ghost use Rattle.fasm_text.specs.declared.error.FasmError.TheVariants.{OutOfMemory};
 ghost use Rattle.fasm_text.specs.Sets.{NamedBit};
@@ -13,4 +14,10 @@ pub fn one_reading()
         → TextSets bytes set → RefusesText bytes e → e ≡ OutOfMemory }
     ensures refused { (bytes : List ℕ) (e f : Refusal)
         → RefusesText bytes e → RefusesText bytes f → AreOneRefusal e f }
+{}
+
+/// Tells a caller's proof that brackets say one range of bits at most. It does nothing.
+pub fn one_range()
+    ensures { (inside : List ℕ) (lo hi bottom top : ℕ) → IsRange inside lo hi
+        → IsRange inside bottom top → (lo ≡ bottom) × (hi ≡ top) }
 {}

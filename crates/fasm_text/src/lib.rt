@@ -16,7 +16,8 @@ mod value;
 mod writer;
 
 pub use error::FasmError;
-pub use laws::one_reading;
+pub use field::{Range, bit_number, read_range};
+pub use laws::{one_range, one_reading};
 pub use names::is_feature_name;
 pub use read::read_fasm;
 pub use set_bits::SetBits;
