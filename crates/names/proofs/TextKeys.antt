@@ -1,18 +1,20 @@
 -- A set of texts, seen as the list of their bytes.
-use Rattle.std.proofs.Common.{◌≡◌, ◌<◌, ◌+◌, ℕ, Bool, false, nat_eq, if◌then◌else◌, List, [], ◌∷◌, ◌++◌, Option, Some, MatchOption, length, take, drop, map, slice_get, position, sym, ap, ◌∙◌, subst, inl, inr, arith}
+use Rattle.std.proofs.Common.{◌≡◌, ◌<◌, ◌+◌, ℕ, Bool, false, nat_eq, if◌then◌else◌, List, [], ◌∷◌, ◌++◌, Option, Some, None, MatchOption, length, take, drop, map, slice_get, position, sym, ap, ◌∙◌, subst, inl, inr, arith}
 use Rattle.std.specs.Cmp.Lexicographic.{pointwise}
 use Rattle.std.specs.List.{IsDistinct, AllByRecursion, list_any}
+use Rattle.std.specs.Option.{option_map}
 use Rattle.std.proofs.lemmas.Bool.{false≢true}
 use Rattle.std.proofs.lemmas.List.{map-append, length-map, length-take, take-append-drop, take_more}
-use Rattle.std.proofs.lemmas.Option.{slice_get_within, get_or_from_slice_get}
+use Rattle.std.proofs.lemmas.List.Quantifiers.{position-Some}
+use Rattle.std.proofs.lemmas.Option.{slice_get_within, slice_get-map, get_or_from_slice_get}
 use Rattle.std.proofs.lemmas.Map.Keys.{IsDistinct-head, IsDistinct-tail}
 use Rattle.std.proofs.lemmas.Slice.Eq.{bytes_eq-Decides}
 use Rattle.indexmap.specs.IndexSet.{insert_key}
-use Rattle.vtr_base.specs.Lists.{Has}
+use Rattle.vtr_base.specs.Lists.{Has, IsFirstPlace}
 use Rattle.list_laws.specs.Orders.{Once}
 use Rattle.list_laws.proofs.Members.{from_map, has_map, at_has}
 use Rattle.list_laws.proofs.Onces.{once_at}
-use Rattle.list_laws.proofs.Places.{get_after, get_front}
+use Rattle.list_laws.proofs.Places.{element, get_after, get_front}
 use Rattle.list_laws.proofs.Searches.{any_none, position_says}
 use Rattle.names.specs.Naming.{AddsName}
 
@@ -39,6 +41,21 @@ module _ {X : Type 0} (bytes : X → List ℕ) where
   name_found keys name r e =
       position_says (λ k. pointwise nat_eq name (bytes k)) bytes name
       (λ k t. sym ((bytes_eq-Decides name (bytes k)).0 t)) (λ k is. (bytes_eq-Decides name (bytes k)).1 (sym is)) keys r e
+
+  -- and it is the first place of the name
+  pub place_found : (keys : List X) (name : List ℕ) (r : Option ℕ) → r ≡ position (λ k. pointwise nat_eq name (bytes k)) keys →
+      MatchOption r ((n : ℕ) → slice_get (map bytes keys) n ≡ Some name → ⊥) (IsFirstPlace (map bytes keys) name)
+  place_found keys name None e = name_found keys name None e
+  place_found keys name (Some i) e = record {
+    there = name_found keys name (Some i) e;
+    first = λ k low at.
+        (let p : X → Bool = λ key. pointwise nat_eq name (bytes key) in
+        let x = element keys k (omega (arith, slice_get_within (map bytes keys) k name at, length-map keys bytes)) in
+        let here : Some (bytes x.0) ≡ Some name = sym (slice_get-map bytes keys k ∙ ap (option_map bytes) x.1) ∙ at in
+        let is : name ≡ bytes x.0 = cc in
+        let fails = (position-Some p keys i x.0 (sym e)).2 k low in
+        false≢true (sym fails ∙ ap p (get_or_from_slice_get keys k x.0 x.0 x.1) ∙ (bytes_eq-Decides name (bytes x.0)).1 is));
+  }
 
   pub name_added : (keys new : List X) (key : X) (name : List ℕ) → bytes key ≡ name → ((n : ℕ) → slice_get (map bytes keys) n ≡ Some name → ⊥) →
       new ≡ insert_key same_bytes keys key → map bytes new ≡ map bytes keys ++ name ∷ []

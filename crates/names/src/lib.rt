@@ -1,11 +1,14 @@
 //! Names by number.
 #![tactic(auto)]
 
+mod lent;
+
 ghost use Rattle.std.specs.Prelude.{◌≡◌, ◌<◌, ◌-◌, ◌^◌, ℕ, Some, [], length, slice_get, IfOk, OnOk, OnErr, MatchOption};
 ghost use Rattle.list_laws.specs.Orders.{Once};
 ghost use Rattle.names.specs.Naming.{AddsName};
 
 use indexmap::IndexSet;
+pub use lent::LentNames;
 use std::alloc::{AllocError, Global};
 use std::marker::Model;
 
@@ -95,25 +98,5 @@ impl Names {
             copy.number(name.as_str())?;
         }
         Ok(copy)
-    }
-}
-
-#[cfg(test)]
-mod tests {
-    use super::Names;
-    use std::test::Fail;
-
-    #[test]
-    fn a_known_name_keeps_its_number(rt: HostRuntime) -> Result<(), Fail> {
-        let mut names = Names::new(rt.alloc());
-        assert_eq!(rt; names.number("a")?, 0);
-        assert_eq!(rt; names.number("b")?, 1);
-        assert_eq!(rt; names.number("a")?, 0);
-        assert_eq!(rt; names.count(), 2);
-        assert_eq!(rt; names.text(1), "b");
-        let copy = names.copy(rt.alloc())?;
-        assert_eq!(rt; copy.find("b"), Some(1));
-        assert_eq!(rt; copy.find("c"), None);
-        Ok(())
     }
 }
