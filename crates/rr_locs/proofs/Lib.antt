@@ -1,3 +1,5 @@
 mod Listed
 mod OneList
+mod Ordered
 mod Sorted
+mod Starts

@@ -1,5 +1,5 @@
 -- The locations of a grid (VPR: x, y and sub block number).
-use Rattle.std.specs.Prelude.{◌≡◌, ◌<◌, ◌⊎◌, ℕ, List, map}
+use Rattle.std.specs.Prelude.{◌≡◌, ◌<◌, ◌⊎◌, ℕ, List, Some, map, slice_get}
 use Rattle.list_laws.specs.Orders.{Once, Ordered}
 use Rattle.vtr_base.specs.Lists.{Has}
 use Rattle.rr_locs.specs.declared.roots.TileRoot.{TileRoot}
@@ -31,3 +31,17 @@ pub record AreLocs (roots : List TileRoot) (locs : List LocAt) : Type 0 where
   pub ascend : Ordered Before locs
   pub only : (loc : LocAt) → Has locs loc → IsLoc roots loc
   pub all : (loc : LocAt) → IsLoc roots loc → Has locs loc
+
+-- no location stands at this x and y
+abbrev pub StandsNone : List LocAt → ℕ → ℕ → Type 0
+StandsNone locs x y = (loc : LocAt) → Has locs loc → loc.x ≡ x → loc.y ≡ y → ⊥
+
+-- of the locations at this x and y, that of this number is the first, and the one of sub 0
+pub record IsFirstAt (locs : List LocAt) (x y number : ℕ) : Type 0 where
+  pub loc : LocAt
+  pub at : slice_get locs number ≡ Some loc
+  pub x_is : loc.x ≡ x
+  pub y_is : loc.y ≡ y
+  pub sub_is : loc.sub ≡ 0
+  pub first : (k : ℕ) (other : LocAt) → k < number → slice_get locs k ≡ Some other →
+      other.x ≡ x → other.y ≡ y → ⊥

@@ -2,12 +2,13 @@
 #![tactic(auto)]
 
 mod error;
+mod firsts;
 mod laws;
 mod listing;
 mod locs;
 mod roots;
 
 pub use error::LocsError;
-pub use laws::one_list;
+pub use laws::{one_list, subs_follow};
 pub use locs::Locs;
 pub use roots::{LocAt, TileRoot};

@@ -1,8 +1,9 @@
-ghost use Rattle.std.specs.Prelude.{◌≡◌, ◌≤◌, ◌<◌, ◌⊎◌, ◌^◌, Some, length, slice_get, MatchResult};
+ghost use Rattle.std.specs.Prelude.{◌≡◌, ◌≤◌, ◌<◌, ◌⊎◌, ◌^◌, Some, length, slice_get, MatchOption, MatchResult};
 ghost use Rattle.std.specs.List.{sum_by};
-ghost use Rattle.rr_locs.specs.Places.{AreApart, AreLocs};
+ghost use Rattle.rr_locs.specs.Places.{AreApart, AreLocs, StandsNone, IsFirstAt};
 
 use crate::error::LocsError;
+use crate::firsts::{Firsts, starts};
 use crate::listing::{all_locs, fit_limit};
 use crate::roots::{LocAt, TileRoot};
 use std::alloc::Global;
@@ -13,17 +14,20 @@ use std::marker::Model;
 #[derive(Drop)]
 pub struct Locs {
     locs: Vec<LocAt>,
+    firsts: Firsts,
 }
 
 impl Model for Locs {
     ghost use Rattle.std.specs.Prelude.{◌≤◌, ◌^◌, List, length};
     ghost use Rattle.rr_locs.specs.declared.roots.LocAt.{LocAt};
+    ghost use Rattle.rr_locs.specs.Firsts.{AreFirsts};
 
     ghost Value = { List LocAt };
 
     ghost view = { λ l. l.locs.items };
 
-    ghost invariant = { λ l. length l.locs.items ≤ 2 ^ 20 };
+    ghost invariant = { λ l. (length l.locs.items ≤ 2 ^ 20)
+        × AreFirsts l.locs.items l.firsts };
 }
 
 impl Locs {
@@ -31,7 +35,8 @@ impl Locs {
     pub fn of_roots(alloc: Global, roots: &[TileRoot]) -> Result<Locs, LocsError>
         requires { AreApart roots.now }
         ensures { MatchResult result
-            (λ locs. AreLocs roots.now locs × (length locs ≤ 2 ^ 20))
+            (λ locs. AreLocs roots.now locs × (length locs ≤ 2 ^ 20)
+            × (sum_by (λ root. root.capacity) roots.now ≤ 2 ^ 20))
             (λ e. (e ≡ LocsError.OutOfMemory) ⊎ ((e ≡ LocsError.TooMany)
             × (2 ^ 20 < sum_by (λ root. root.capacity) roots.now))) }
     {
@@ -40,7 +45,8 @@ impl Locs {
         }
         let mut locs = all_locs(alloc, roots)?;
         locs.sort_unstable();
-        Ok(Locs { locs })
+        let firsts = starts(alloc, locs.as_slice())?;
+        Ok(Locs { locs, firsts })
     }
 
     /// How many locations there are.
@@ -56,5 +62,12 @@ impl Locs {
         ensures { slice_get self.now number ≡ Some result }
     {
         self.locs[number as usize]
+    }
+
+    /// The number of the first location at (x, y), where there is one. The others follow it.
+    pub fn first_at(&self, x: u32, y: u32) -> Option<u32>
+        ensures { MatchOption result (StandsNone self.now x y) (IsFirstAt self.now x y) }
+    {
+        self.firsts.at(x, y)
     }
 }

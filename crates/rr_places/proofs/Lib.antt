@@ -2,8 +2,10 @@ pub mod Classes
 pub mod Cutting
 pub mod Entries
 pub mod OneReading
+pub mod OneRefusal
 pub mod PinLists
 pub mod PinReading
 pub mod Reading
+pub mod TileNames
 pub mod TileReading
 pub mod Listing

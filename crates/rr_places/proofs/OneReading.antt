@@ -1,21 +1,18 @@
 -- The switches and the block types of a file are one list each.
-use Rattle.std.proofs.Common.{◌≡◌, ◌<◌, ◌⊎◌, ℕ, Bool, List, [], ◌∷◌, Option, Some, None, slice_get, codes, refl, sym, ap, ◌∙◌, subst, inl, inr}
+use Rattle.std.proofs.Common.{◌≡◌, ℕ, Bool, List, [], ◌∷◌, Option, Some, None, slice_get, codes, refl, sym, ap, ◌∙◌, subst, inl, inr}
 use Rattle.std.specs.Str.Parse.{digits_value}
 use Rattle.elem_text.specs.declared.elem.Elem.{Elem, out-Elem}
-use Rattle.elem_attrs.specs.Attributes.{HasAttribute}
 use Rattle.arch_types.specs.declared.arch.Tile.{Tile}
 use Rattle.arch_types.specs.declared.block.Port.{Port}
 use Rattle.arch_types.specs.declared.block.Side.TheVariants.{Output}
 use Rattle.arch_types.specs.Blocks.{port_names, is_on}
 use Rattle.arch_types.specs.Tiles.{tile_names}
 use Rattle.vtr_base.specs.Lists.{IsFirstPlace}
-use Rattle.rr_places.specs.declared.pin_text.SubPin.{SubPin}
 use Rattle.rr_places.specs.declared.pin_text.NamedPin.{NamedPin}
-use Rattle.rr_places.specs.declared.pins.ClassedPin.{ClassedPin}
 use Rattle.rr_places.specs.Reading.{EachSays}
 use Rattle.rr_places.specs.PinTexts.{IsIndex, NamesSub, NamesBit, IsPinText, NamesPin}
 use Rattle.rr_places.specs.Pins.{PinItem, NumberedPin, SaysPin, named_of, classed_pins}
-use Rattle.rr_places.specs.Types.{TypeParts, NumberedType, IsTileName, SaysType, tile_at, ArePins}
+use Rattle.rr_places.specs.Types.{NumberedType, IsTileName, SaysType, tile_at, ArePins}
 use Rattle.rr_places.proofs.Cutting.{no_cut, same_cut, same_place}
 use Rattle.rr_places.proofs.TileReading.{one_number}
 
@@ -77,7 +74,7 @@ one_name : (tile : Option Tile) (text : List ℕ) (m n : NamedPin) → NamesPin 
 one_name None text m n p q = absurd p
 one_name (Some tile) text m n p q = one_text tile text m n p q
 
-one_pin : (tile : Option Tile) (item : PinItem) (p q : NumberedPin) → SaysPin tile item p → SaysPin tile item q → p ≡ q
+pub one_pin : (tile : Option Tile) (item : PinItem) (p q : NumberedPin) → SaysPin tile item p → SaysPin tile item q → p ≡ q
 one_pin tile item p q says_p says_q =
     let ptc = one_number item.1 (codes "ptc") 2147483647 p.0 q.0 says_p.ptc says_q.ptc in
     let named = one_name tile (out-Elem item.1).text (named_of p.1) (named_of q.1) says_p.named says_q.named in
@@ -87,7 +84,7 @@ one_pin tile item p q says_p says_q =
     whole : ℕ → NamedPin → ℕ → NumberedPin
     whole ptc named class = (ptc, record { pin = named.pin; is_output = named.is_output; class = class })
 
-one_tile : (tiles : List Tile) (name : List ℕ) (t u : Option ℕ) → IsTileName tiles name t → IsTileName tiles name u → t ≡ u
+pub one_tile : (tiles : List Tile) (name : List ℕ) (t u : Option ℕ) → IsTileName tiles name t → IsTileName tiles name u → t ≡ u
 one_tile tiles name None None p q = refl
 one_tile tiles name None (Some n) p q = absurd (q.0 p)
 one_tile tiles name (Some m) None p q = absurd (p.0 q)

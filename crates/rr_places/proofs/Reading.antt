@@ -22,6 +22,12 @@ one_longer (y ∷ xs) (suc k) x at = ap (λ l. y ∷ l) (one_longer xs k x at)
 pub one_more : {X : Type 0} (xs : List X) (k : ℕ) (x : X) → slice_get xs k ≡ Some x → take (k + 1) xs ≡ take k xs ++ x ∷ []
 one_more xs k x at = let on : k + 1 ≡ suc k = omega arith in ap (λ n. take n xs) on ∙ one_longer xs k x at
 
+pub take_whole : {X : Type 0} (xs : List X) (n : ℕ) → length xs ≤ n → take n xs ≡ xs
+take_whole [] zero end = refl
+take_whole [] (suc n) end = refl
+take_whole (x ∷ xs) zero end = absurd (omega arith)
+take_whole (x ∷ xs) (suc n) end = ap (λ l. x ∷ l) (take_whole xs n (omega arith))
+
 cut_behind : {X : Type 0} (xs : List X) (k : ℕ) (x : X) → slice_get xs k ≡ Some x → xs ≡ take k xs ++ x ∷ drop (suc k) xs
 cut_behind [] k x at = cc
 cut_behind (y ∷ xs) zero x at = let same : y ≡ x = cc in ap (λ z. z ∷ xs) same
@@ -60,13 +66,7 @@ module _ {A B K : Type 0} (Says : A → B → Type 0) (key : B → K) (xs : List
   }
 
   pub read_all : length xs ≤ k → AreRead Says key xs bs
-  read_all end = subst (λ l. AreRead Says key l bs) (whole xs k end) read
-    where
-      whole : (ys : List A) (n : ℕ) → length ys ≤ n → take n ys ≡ ys
-      whole [] zero end = refl
-      whole [] (suc n) end = refl
-      whole (y ∷ ys) zero end = absurd (omega arith)
-      whole (y ∷ ys) (suc n) end = ap (λ l. y ∷ l) (whole ys n (omega arith))
+  read_all end = subst (λ l. AreRead Says key l bs) (take_whole xs k end) read
 
 pub read_none : {A B K : Type 0} (Says : A → B → Type 0) (key : B → K) (bs : List B) → bs ≡ [] → AreRead Says key [] bs
 read_none Says key [] is = record { each = tt; once = tt }

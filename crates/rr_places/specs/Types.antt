@@ -1,6 +1,6 @@
 -- The block types of a routing graph file (VPR's routing graph files: `block_types` with
 -- `block_type`, which has `id` and `name`).
-use Rattle.std.specs.Prelude.{◌≡◌, ◌≢◌, ◌⊎◌, ◌<◌, ◌^◌, ℕ, List, Option, Some, None, length, slice_get, codes}
+use Rattle.std.specs.Prelude.{◌≡◌, ◌≢◌, ◌⊎◌, ℕ, List, Option, Some, None, slice_get, codes}
 use Rattle.vtr_base.specs.Lists.{Has, IsFirstPlace}
 use Rattle.elem_text.specs.declared.elem.Elem.{Elem, out-Elem}
 use Rattle.elem_attrs.specs.Attributes.{HasAttribute, LacksAttribute}
@@ -34,11 +34,6 @@ IsTileName tiles name (Some tile) =
 abbrev pub tile_at : List Tile → Option ℕ → Option Tile
 tile_at tiles None = None
 tile_at tiles (Some tile) = slice_get tiles tile
-
--- the lists of tiles and of their ports are shorter than 2^32
-pub record AreShort (tiles : List Tile) : Type 0 where
-  pub few : length tiles < 2 ^ 32
-  pub ports : (n : ℕ) (tile : Tile) → slice_get tiles n ≡ Some tile → length tile.ports < 2 ^ 32
 
 -- the pins of the block type, whose tile this is
 abbrev pub ArePins : List Tile → Option ℕ → Elem → List NumberedPin → Type 0

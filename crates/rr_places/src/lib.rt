@@ -8,10 +8,11 @@ mod pin_elems;
 mod pin_text;
 mod pins;
 mod switches;
+mod tile_names;
 mod types;
 
 pub use error::PlaceError;
-pub use laws::one_list;
+pub use laws::{one_list, one_refusal};
 pub use pin_text::{NamedPin, SubPin};
 pub use pins::ClassedPin;
 pub use switches::{Switches, read_switches};

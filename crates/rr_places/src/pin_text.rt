@@ -1,11 +1,11 @@
-ghost use Rattle.std.specs.Prelude.{◌≡◌, ◌<◌, ◌^◌, ℕ, length, IfSome, MatchBool, MatchOption};
+ghost use Rattle.std.specs.Prelude.{◌≡◌, ℕ, MatchBool, MatchOption};
 ghost use Rattle.std.specs.Option.{option_copied};
-ghost use Rattle.vtr_base.specs.Lists.{IsFirstPlace};
-ghost use Rattle.arch_types.specs.Blocks.{port_names, is_on};
+ghost use Rattle.arch_types.specs.Blocks.{is_on};
 ghost use Rattle.arch_types.specs.declared.block.Side.TheVariants.{Output as out_side};
 ghost use Rattle.rr_places.specs.PinTexts.{IsNumberBelow, IsIndex, IsOwner, NamesSub, NamesBit, IsPinText, NamesPin};
 
-use arch_types::{Port, Side, Tile};
+use crate::tile_names::TilePorts;
+use arch_types::{Side, Tile};
 use text_parts::{Number, number_up_to};
 use vtr_base::cut;
 
@@ -25,8 +25,7 @@ pub struct NamedPin {
 }
 
 /// The pin that a text names, where there is a tile.
-pub(crate) fn named_pin(tile: Option<&Tile>, text: &[u8]) -> Option<NamedPin>
-    requires { IfSome tile (λ tile. length tile.now.ports < 2 ^ 32) }
+pub(crate) fn named_pin(tile: Option<&TilePorts<'_>>, text: &[u8]) -> Option<NamedPin>
     ensures { MatchOption result
         ((named : NamedPin) → NamesPin (option_copied tile.entry) text.now named → ⊥)
         (NamesPin (option_copied tile.entry) text.now) }
@@ -38,33 +37,31 @@ pub(crate) fn named_pin(tile: Option<&Tile>, text: &[u8]) -> Option<NamedPin>
 }
 
 /// The pin of the tile that a text names.
-fn pin_of_tile(tile: &Tile, text: &[u8]) -> Option<NamedPin>
-    requires { length tile.now.ports < 2 ^ 32 }
+fn pin_of_tile(tile: &TilePorts<'_>, text: &[u8]) -> Option<NamedPin>
     ensures { MatchOption result ((named : NamedPin) → IsPinText tile.now text.now named → ⊥)
         (IsPinText tile.now text.now) }
 {
     let Some((owner, rest)) = cut(text, b'.') else {
         return None;
     };
-    let Some(sub) = sub_of(tile, owner) else {
+    let Some(sub) = sub_of(tile.tile(), owner) else {
         return None;
     };
-    named_bit(tile.ports.as_slice(), rest, sub)
+    named_bit(tile, rest, sub)
 }
 
 /// The bit of a port that a text names, at this instance.
-fn named_bit(ports: &[Port], text: &[u8], sub: u32) -> Option<NamedPin>
-    requires { length ports.now < 2 ^ 32 }
-    ensures { MatchOption result ((named : NamedPin) → NamesBit ports.now text.now named → ⊥)
-        (λ named. NamesBit ports.now text.now named × (named.pin.sub ≡ sub)) }
+fn named_bit(tile: &TilePorts<'_>, text: &[u8], sub: u32) -> Option<NamedPin>
+    ensures { MatchOption result
+        ((named : NamedPin) → NamesBit tile.now.ports text.now named → ⊥)
+        (λ named. NamesBit tile.now.ports text.now named × (named.pin.sub ≡ sub)) }
 {
     let Some((name, index)) = cut(text, b'[') else {
         return None;
     };
-    let Some(place) = find_port(ports, name) else {
+    let Some((place, port)) = tile.find_port(name) else {
         return None;
     };
-    let port = &ports[place as usize];
     let Some(bit) = index_below(index, port.width) else {
         return None;
     };
@@ -141,19 +138,4 @@ fn number_below(digits: &[u8], limit: u32) -> Option<u32>
         Number::NoDigits => None,
         Number::Over => None,
     }
-}
-
-/// The first port of this name.
-fn find_port(ports: &[Port], name: &[u8]) -> Option<u32>
-    requires { length ports.now < 2 ^ 32 }
-    ensures { MatchOption result
-        ((place : ℕ) → IsFirstPlace (port_names ports.now) name.now place → ⊥)
-        (IsFirstPlace (port_names ports.now) name.now) }
-{
-    for (place, port) in ports.iter().enumerate() {
-        if port.name.is(name) {
-            return Some(place as u32);
-        }
-    }
-    None
 }

@@ -1,4 +1,4 @@
-ghost use Rattle.std.specs.Prelude.{◌≡◌, ◌<◌, ◌^◌, ◌⊎◌, map, length, IfOk, IfErr, IfSome, OnOk, MatchOption};
+ghost use Rattle.std.specs.Prelude.{◌≡◌, ◌⊎◌, map, IfOk, IfErr, OnOk, MatchOption};
 ghost use Rattle.std.specs.Option.{option_copied};
 ghost use Rattle.vtr_base.specs.Lists.{Has};
 ghost use Rattle.rr_places.specs.PinTexts.{NamesPin};
@@ -9,7 +9,7 @@ ghost use Rattle.rr_places.specs.Reading.{AreRead, IsFirstRefused, OrMemory};
 use crate::error::PlaceError;
 use crate::keyed::{add, find};
 use crate::pin_text::{NamedPin, SubPin, named_pin};
-use arch_types::Tile;
+use crate::tile_names::TilePorts;
 use elem_reading::number_within;
 use elem_text::Elem;
 use indexmap::IndexMap;
@@ -41,10 +41,9 @@ pub(crate) struct PinElem<'a> {
 /// The pins that elements say.
 pub(crate) fn list_pins(
     alloc: Global,
-    tile: Option<&Tile>,
+    tile: Option<&TilePorts<'_>>,
     elems: &[PinElem<'_>],
 ) -> Result<Pins, PlaceError>
-    requires { IfSome tile (λ tile. length tile.now.ports < 2 ^ 32) }
     ensures read { IfOk result (λ pins.
         AreRead (SaysPin (option_copied tile.entry)) ptc_of (map seen_pin elems.now)
         pins.by_ptc.entries) }
@@ -67,11 +66,10 @@ pub(crate) fn list_pins(
 fn next_pin(
     alloc: Global,
     by_ptc: &IndexMap<u32, ClassedPin>,
-    tile: Option<&Tile>,
+    tile: Option<&TilePorts<'_>>,
     class: u32,
     elem: &Elem,
 ) -> Result<(u32, ClassedPin), PlaceError>
-    requires { IfSome tile (λ tile. length tile.now.ports < 2 ^ 32) }
     ensures said { IfOk result (λ pin.
         SaysPin (option_copied tile.entry) (class, elem.now) pin
         × (IsSeen by_ptc.now.entries pin.0 → ⊥)) }
@@ -96,11 +94,10 @@ fn next_pin(
 /// The pin that a text names, where its number is new.
 fn new_pin(
     by_ptc: &IndexMap<u32, ClassedPin>,
-    tile: Option<&Tile>,
+    tile: Option<&TilePorts<'_>>,
     ptc: u32,
     text: &[u8],
 ) -> Option<NamedPin>
-    requires { IfSome tile (λ tile. length tile.now.ports < 2 ^ 32) }
     ensures { MatchOption result
         (IsSeen by_ptc.now.entries ptc ⊎ NamesNoPin (option_copied tile.entry) text.now)
         (λ named. NamesPin (option_copied tile.entry) text.now named

@@ -1,9 +1,7 @@
-ghost use Rattle.std.specs.Prelude.{◌≡◌, ◌<◌, ◌^◌, ℕ, Option, map, length, IfOk, IfErr, MatchOption};
-ghost use Rattle.std.specs.Option.{option_copied};
-ghost use Rattle.vtr_base.specs.Lists.{Has, IsFirstPlace};
-ghost use Rattle.arch_types.specs.Tiles.{tile_names};
+ghost use Rattle.std.specs.Prelude.{◌≡◌, ℕ, Option, map, IfOk, IfErr, MatchOption};
+ghost use Rattle.vtr_base.specs.Lists.{Has};
 ghost use Rattle.rr_places.specs.Pins.{HasClass};
-ghost use Rattle.rr_places.specs.Types.{TypeParts, IsTileName, tile_at as tile_there, AreShort, ArePins, ArePinsRefused, SaysType, IsKnown, HasHead, LacksHead, IsBadType, AreTypes, IsTypeRefused, type_id};
+ghost use Rattle.rr_places.specs.Types.{TypeParts, IsTileName, ArePins, ArePinsRefused, SaysType, IsKnown, HasHead, LacksHead, IsBadType, AreTypes, IsTypeRefused, type_id};
 ghost use Rattle.rr_places.specs.Reading.{AreRead, IsFirstRefused, OrMemory};
 
 use crate::error::PlaceError;
@@ -11,7 +9,8 @@ use crate::keyed::{add, find};
 use crate::pin_elems::classed_pins;
 use crate::pin_text::SubPin;
 use crate::pins::{ClassedPin, list_pins};
-use arch_types::{Arch, Tile};
+use crate::tile_names::TileNames;
+use arch_types::Arch;
 use elem_attrs::attribute;
 use elem_reading::{kids_under, number_within};
 use elem_text::Elem;
@@ -97,14 +96,17 @@ pub fn read_types(alloc: Global, root: &Elem, arch: &Arch) -> Result<BlockTypes,
     ensures read { IfOk result (AreTypes arch.now.tiles root.now) }
     ensures refused { IfErr result (OrMemory (IsTypeRefused arch.now.tiles root.now)) }
 {
-    arch.law();
+    let tiles = TileNames::new(alloc, arch)?;
     let elems = kids_under(alloc, root, b"block_types", b"block_type")?;
-    list_types(alloc, arch.tiles.as_slice(), &elems)
+    list_types(alloc, &tiles, &elems)
 }
 
 /// The block types that elements say.
-fn list_types(alloc: Global, tiles: &[Tile], elems: &[&Elem]) -> Result<BlockTypes, PlaceError>
-    requires { AreShort tiles.now }
+fn list_types(
+    alloc: Global,
+    tiles: &TileNames<'_>,
+    elems: &[&Elem],
+) -> Result<BlockTypes, PlaceError>
     ensures read { IfOk result
         (AreRead (SaysType tiles.now) type_id (map (λ e. e.now) elems.now)) }
     ensures refused { IfErr result (OrMemory (IsFirstRefused (SaysType tiles.now) type_id
@@ -122,10 +124,9 @@ fn list_types(alloc: Global, tiles: &[Tile], elems: &[&Elem]) -> Result<BlockTyp
 fn next_type(
     alloc: Global,
     by_id: &IndexMap<u32, BlockType>,
-    tiles: &[Tile],
+    tiles: &TileNames<'_>,
     elem: &Elem,
 ) -> Result<(u32, BlockType), PlaceError>
-    requires { AreShort tiles.now }
     ensures said { IfOk result (λ type. SaysType tiles.now elem.now (type.0, type.1)
         × (IsKnown by_id.now.entries type.0 → ⊥)) }
     ensures refused { IfErr result
@@ -159,8 +160,7 @@ fn head_of<'a>(by_id: &IndexMap<u32, BlockType>, elem: &'a Elem) -> Option<(u32,
 }
 
 /// The tile of this name, or none of `EMPTY`.
-fn tile_named(tiles: &[Tile], name: &Text) -> Option<Option<u32>>
-    requires { length tiles.now < 2 ^ 32 }
+fn tile_named(tiles: &TileNames<'_>, name: &Text) -> Option<Option<u32>>
     ensures { MatchOption result
         ((tile : Option ℕ) → IsTileName tiles.now name.now tile → ⊥)
         (IsTileName tiles.now name.now) }
@@ -168,54 +168,28 @@ fn tile_named(tiles: &[Tile], name: &Text) -> Option<Option<u32>>
     if name.is(b"EMPTY") {
         return Some(None);
     }
-    let Some(tile) = find_tile(tiles, name.as_bytes()) else {
+    let Some(tile) = tiles.find(name.as_bytes()) else {
         return None;
     };
     Some(Some(tile))
 }
 
-/// The first tile of this name.
-fn find_tile(tiles: &[Tile], name: &[u8]) -> Option<u32>
-    requires { length tiles.now < 2 ^ 32 }
-    ensures { MatchOption result
-        ((place : ℕ) → IsFirstPlace (tile_names tiles.now) name.now place → ⊥)
-        (IsFirstPlace (tile_names tiles.now) name.now) }
-{
-    for (place, tile) in tiles.iter().enumerate() {
-        if tile.name.is(name) {
-            return Some(place as u32);
-        }
-    }
-    None
-}
-
 /// The block type with the pins of this element.
 fn read_block(
     alloc: Global,
-    tiles: &[Tile],
+    tiles: &TileNames<'_>,
     tile: Option<u32>,
     elem: &Elem,
 ) -> Result<BlockType, PlaceError>
-    requires { AreShort tiles.now }
     ensures tile { IfOk result (λ block. block.tile ≡ tile) }
     ensures pins { IfOk result (λ block. ArePins tiles.now tile elem.now block.pins) }
     ensures refused { IfErr result (OrMemory (ArePinsRefused tiles.now tile elem.now)) }
 {
     let items = classed_pins(alloc, elem)?;
-    let pins = list_pins(alloc, tile_at(tiles, tile), &items)?;
+    let pins = list_pins(alloc, tiles.tile(tile), &items)?;
     Ok(BlockType {
         tile,
         by_ptc: pins.by_ptc,
         classes: pins.classes,
     })
-}
-
-/// The tile of this number.
-fn tile_at(tiles: &[Tile], tile: Option<u32>) -> Option<&Tile>
-    ensures { option_copied result ≡ tile_there tiles.now tile }
-{
-    match tile {
-        Some(tile) => tiles.get(tile as usize),
-        None => None,
-    }
 }

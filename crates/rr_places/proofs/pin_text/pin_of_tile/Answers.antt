@@ -10,9 +10,11 @@ returns-in_default c = λ named h. no_cut 46 _ _ _ c.in_default.ensures h.cut
 pub returns-in_default-sub_of : goal.returns-in_default-sub_of
 returns-in_default-sub_of c = λ named h.
     (let k = same_cut 46 _ _ _ _ _ c.in-Some.ensures h.cut in
-    c.in_default-sub_of.ensures named.pin.sub (subst (λ o. NamesSub c.args.tile.now o named.pin.sub) (sym k.0) h.sub))
+    c.in_default-sub_of.ensures named.pin.sub
+    (subst (λ t. NamesSub t c.in-Some.owner.now named.pin.sub) (sym c.tile.ensures)
+    (subst (λ o. NamesSub c.args.tile.now o named.pin.sub) (sym k.0) h.sub)))
 
 pub returns : goal.returns
 returns c =
-    whole c.args.tile.now c.args.text.now c.in-Some.owner.now c.in-Some.rest.now c.in-Some-sub_of.sub c.as_slice.result.now c.named_bit.result
-    c.in-Some.ensures c.in-Some-sub_of.ensures c.as_slice.ensures c.named_bit.ensures
+    whole c.args.tile.now c.args.text.now c.in-Some.owner.now c.in-Some.rest.now c.in-Some-sub_of.sub c.named_bit.result c.in-Some.ensures
+    (subst (λ t. NamesSub t c.in-Some.owner.now c.in-Some-sub_of.sub) c.tile.ensures c.in-Some-sub_of.ensures) c.named_bit.ensures
