@@ -1,0 +1,5 @@
+pub mod Ends
+pub mod Layouts
+pub mod Looks
+pub mod Roots
+pub mod Tiles
