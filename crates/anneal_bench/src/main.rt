@@ -77,8 +77,10 @@ fn main(rt: HostRuntime) -> Result<()> {
     let first = cost(&task, &places);
     let answer = anneal(alloc, &task, &places, seed as u64, moves)?;
     let last = cost(&task, &answer);
-    println!(rt; "cost {first}, then {last}")?;
-    if args.next().is_some() {
+    if args.next().is_none() {
+        println!(rt; "cost {first}, then {last}")?;
+    } else {
+        println!(rt; "cost {first}, then less: {}", last < first)?;
         let again = anneal(alloc, &task, &places, seed as u64, moves)?;
         println!(rt; "the same again: {}", answer.as_slice() == again.as_slice())?;
         println!(rt; "two on a row: cost {}", on_a_row(alloc, 0, 2)?.1)?;

@@ -1,8 +1,8 @@
 use crate::SiteAt;
 use std::alloc::{AllocError, Global};
 
-/// The sites, kind by kind, along a curve that keeps near together what is near in the plane: by
-/// the bits of column and row in turn.
+/// The sites, kind by kind, along Hilbert's curve, on which what stands near together is near in
+/// the plane.
 #[derive(Drop)]
 pub(crate) struct Curve {
     /// The sites in this order.
@@ -15,7 +15,7 @@ impl Curve {
     pub(crate) fn new(alloc: Global, sites: &[SiteAt]) -> Result<Curve, AllocError> {
         let mut keys = Vec::with_capacity(alloc, sites.len())?;
         for (number, site) in sites.iter().enumerate() {
-            keys.push((site.kind, spread(site.x) | (spread(site.y) << 1), number))?;
+            keys.push((site.kind, along(site.x, site.y), number))?;
         }
         keys.sort()?;
         let mut order = Vec::with_capacity(alloc, sites.len())?;
@@ -44,12 +44,29 @@ impl Curve {
     }
 }
 
-/// The bits of a number at every second place.
-fn spread(number: u32) -> u64 {
-    let mut bits = number as u64;
-    bits = (bits | (bits << 16)) & 0x0000_ffff_0000_ffff;
-    bits = (bits | (bits << 8)) & 0x00ff_00ff_00ff_00ff;
-    bits = (bits | (bits << 4)) & 0x0f0f_0f0f_0f0f_0f0f;
-    bits = (bits | (bits << 2)) & 0x3333_3333_3333_3333;
-    (bits | (bits << 1)) & 0x5555_5555_5555_5555
+/// How far along Hilbert's curve through the plane a point stands: of each square, the quarter in
+/// which it stands, from the largest square to the least.
+fn along(x: u32, y: u32) -> u64 {
+    let mut x = x;
+    let mut y = y;
+    let mut far = 0u64;
+    for bit in (0..32u32).rev() {
+        let right = (x >> bit) & 1 == 1;
+        let high = (y >> bit) & 1 == 1;
+        far = (far << 2) | quarter(right, high);
+        if !high {
+            (x, y) = if right { (!y, !x) } else { (y, x) };
+        }
+    }
+    far
+}
+
+/// Where the curve comes through a quarter of a square.
+fn quarter(right: bool, high: bool) -> u64 {
+    match (right, high) {
+        (false, false) => 0,
+        (false, true) => 1,
+        (true, true) => 2,
+        (true, false) => 3,
+    }
 }

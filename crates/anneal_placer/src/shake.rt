@@ -1,4 +1,4 @@
-ghost use Rattle.std.specs.Prelude.{◌≡◌, ◌<◌, ◌≤◌, ◌+◌, ◌^◌, OnOk, length, map};
+ghost use Rattle.std.specs.Prelude.{◌≡◌, ◌<◌, ◌≤◌, ◌+◌, ◌^◌, IfSome, IsTrue, OnOk, length, map};
 ghost use Rattle.std.specs.Vec.{vec_items};
 ghost use Rattle.anneal_placer.specs.Board.{HaveSamePairs, IsBoard};
 ghost use Rattle.anneal_placer.specs.Search.{AreBlockNets};
@@ -9,7 +9,7 @@ use crate::board::{Board, fits};
 use crate::curve::Curve;
 use crate::indexed::BlockNets;
 use crate::pairing::Pairing;
-use crate::trial::{Trial, exchange_trial, move_trial};
+use crate::trial::{Trial, cost_with, exchange_trial, move_trial};
 use rand_core::utils::NextWord;
 use rand_pcg::Pcg32;
 use std::alloc::{AllocError, Global};
@@ -19,6 +19,9 @@ const ROUNDS: u32 = 200;
 
 /// How far along the curve from a neighbour a block is tried at most.
 const NEIGHBOURHOOD: u32 = 64;
+
+/// How many sites a block looks at in each move; it is tried at the one that would cost it least.
+const LOOKS: u32 = 3;
 
 /// The window grows no narrower.
 const LEAST_WINDOW: u64 = 8;
@@ -116,21 +119,79 @@ fn try_moves(
         rise: 0,
     };
     let blocks = task.blocks.len() as u32;
-    let sites = task.sites.len() as u32;
     if blocks == 0 {
         return tally;
     }
     for _ in 0..tries {
         let block = heat.words.next_word() % blocks;
-        let home = board.places[block as usize];
-        let site = heat.aim(task, nets, curve, &board.places, block);
-        if site < sites && site != home && fits(task, pairing, block, site) {
+        if let Some(site) = best_of_few(task, nets, pairing, board, curve, heat, block) {
             let most = heat.patience();
             let trial = try_step(task, nets, pairing, board, block, site, most);
             tally.count(trial, most);
         }
     }
     tally
+}
+
+/// Of a few sites other than its own that the block fits, one at which its nets would cost least.
+fn best_of_few(
+    task: &AnnealTask,
+    nets: &BlockNets,
+    pairing: &Pairing,
+    board: &mut Board,
+    curve: &Curve,
+    heat: &mut Heat,
+    block: u32,
+) -> Option<u32>
+    requires nets { AreBlockNets (nets_of task.now) (map vec_items nets.now.of.items)
+        (length task.now.blocks.items) }
+    requires named { NameBlocks (nets_of task.now) (length task.now.blocks.items) }
+    requires pairing { HaveSamePairs task.now.fits.items pairing.now.pairs.keys }
+    requires few_sites { length task.now.sites.items + 1 < 2 ^ 32 }
+    requires board { IsBoard task.now board.old.places.items board.old.occupants.items }
+    requires block { block < length task.now.blocks.items }
+    ensures board { IsBoard task.now board.new.places.items board.new.occupants.items }
+    ensures fit { IfSome result (FitsAt task.now block) }
+{
+    let mut best = None;
+    let mut least = u128::MAX;
+    for _ in 0..LOOKS {
+        let site = heat.aim(task, nets, curve, &board.places, block);
+        if can_go(task, pairing, board, block, site) {
+            let cost = cost_there(task, nets, board, block, site);
+            if cost < least {
+                least = cost;
+                best = Some(site);
+            }
+        }
+    }
+    best
+}
+
+/// What the nets of a block would cost with the block at that site. The board stays.
+fn cost_there(task: &AnnealTask, nets: &BlockNets, board: &mut Board, block: u32, site: u32) -> u128
+    requires nets { AreBlockNets (nets_of task.now) (map vec_items nets.now.of.items)
+        (length task.now.blocks.items) }
+    requires named { NameBlocks (nets_of task.now) (length task.now.blocks.items) }
+    requires board { IsBoard task.now board.old.places.items board.old.occupants.items }
+    requires block { block < length task.now.blocks.items }
+    requires site { site < length task.now.sites.items }
+    ensures { IsBoard task.now board.new.places.items board.new.occupants.items }
+{
+    cost_with(task, nets, &mut board.places, block, site)
+}
+
+/// Whether a site is another than the block's own, and one that the block fits.
+fn can_go(task: &AnnealTask, pairing: &Pairing, board: &Board, block: u32, site: u32) -> bool
+    requires pairing { HaveSamePairs task.now.fits.items pairing.now.pairs.keys }
+    requires few_sites { length task.now.sites.items + 1 < 2 ^ 32 }
+    requires board { IsBoard task.now board.now.places.items board.now.occupants.items }
+    requires block { block < length task.now.blocks.items }
+    ensures within { IsTrue result → site < length task.now.sites.items }
+    ensures fit { IsTrue result → FitsAt task.now block site }
+{
+    let home = board.places[block as usize];
+    (site as usize) < task.sites.len() && site != home && fits(task, pairing, block, site)
 }
 
 /// Moves a block to a site, or exchanges it with the block there, unless that block doesn't fit or
@@ -190,8 +251,8 @@ impl Tally {
 }
 
 impl Heat {
-    /// A site for a block to be tried at: every second time near a block that shares a net with it,
-    /// and else near its own.
+    /// A site for a block to look at: every third time near a block that shares a net with it, and
+    /// else near its own.
     fn aim(
         &mut self,
         task: &AnnealTask,
@@ -201,7 +262,7 @@ impl Heat {
         block: u32,
     ) -> u32 {
         let window = self.window;
-        if self.words.next_word() % 2 != 0 {
+        if self.words.next_word() % 3 == 0 {
             if let Some(site) = self.neighbour(task, nets, places, block) {
                 return self.near(curve, site, window.min(NEIGHBOURHOOD));
             }

@@ -38,12 +38,35 @@ pub(crate) fn move_trial(
     ensures after { result.after ≡ nets_cost task.now.sites.items (slice_set places.old block site)
         (with_block block (nets_of task.now)) }
 {
-    let home = places[block as usize];
     let before = nets.cost_at(task, places, block);
-    places[block as usize] = site;
-    let after = nets.cost_at(task, places, block);
-    places[block as usize] = home;
+    let after = cost_with(task, nets, places, block, site);
     Trial { before, after }
+}
+
+/// What the nets of a block would cost with the block at that site. The places stay.
+pub(crate) fn cost_with(
+    task: &AnnealTask,
+    nets: &BlockNets,
+    places: &mut [u32],
+    block: u32,
+    site: u32,
+) -> u128
+    requires nets { AreBlockNets (nets_of task.now) (map vec_items nets.now.of.items)
+        (length task.now.blocks.items) }
+    requires named { NameBlocks (nets_of task.now) (length task.now.blocks.items) }
+    requires blocks { length places.old ≡ length task.now.blocks.items }
+    requires sites { All (λ site. site < length task.now.sites.items) places.old }
+    requires block { block < length places.old }
+    requires site { site < length task.now.sites.items }
+    ensures kept { places.new ≡ places.old }
+    ensures value { result ≡ nets_cost task.now.sites.items (slice_set places.old block site)
+        (with_block block (nets_of task.now)) }
+{
+    let home = places[block as usize];
+    places[block as usize] = site;
+    let cost = nets.cost_at(task, places, block);
+    places[block as usize] = home;
+    cost
 }
 
 /// What an exchange of two blocks would do. The places stay.
