@@ -1,0 +1,15 @@
+pub mod Lists
+pub mod Reaching
+pub mod Entering
+pub mod Leaving
+pub mod Closing
+pub mod Marking
+pub mod Rounds
+pub mod Spreading
+pub mod Scanning
+pub mod Least
+pub mod Walking
+pub mod Cycling
+pub mod Ranking
+pub mod Answering
+pub mod Turning
