@@ -1,0 +1,2 @@
+mod OneCut
+mod Wording

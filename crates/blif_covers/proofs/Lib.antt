@@ -1,0 +1,4 @@
+mod Covering
+mod Marking
+mod OneTable
+mod Tables

@@ -1,0 +1,4 @@
+mod Keys
+mod Latches
+mod Naming
+mod OneReading

@@ -1,0 +1,5 @@
+pub mod Faults
+pub mod Keywords
+pub mod Nets
+pub mod Seen
+pub mod Statements

@@ -1,0 +1,6 @@
+mod Cuts
+mod Joining
+mod OneReading
+mod Parts
+mod Texts
+mod Wording

@@ -1,0 +1,4 @@
+pub mod Lines
+pub mod Physical
+pub mod Seen
+pub mod Words
