@@ -1,0 +1,4 @@
+mod Elements
+mod Mixing
+mod Placed
+mod Putting

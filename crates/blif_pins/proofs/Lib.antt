@@ -1,0 +1,4 @@
+mod Naming
+mod Pairs
+mod Pinning
+mod Porting

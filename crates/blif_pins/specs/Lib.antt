@@ -1,0 +1,4 @@
+pub mod Keys
+pub mod Pins
+pub mod Ports
+pub mod Seen
