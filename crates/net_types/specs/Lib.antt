@@ -1,0 +1,10 @@
+pub mod Words
+pub mod Atoms
+pub mod Ends
+pub mod Names
+pub mod Merges
+pub mod Order
+pub mod WellFormed
+pub mod Fits
+pub mod Pairs
+pub mod Inside
