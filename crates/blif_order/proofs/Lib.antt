@@ -1,0 +1,5 @@
+pub mod Tops
+pub mod LineNets
+pub mod Moves
+pub mod PinMoves
+pub mod Going

@@ -1,0 +1,4 @@
+pub mod Tops
+pub mod Orders
+pub mod Pins
+pub mod Queues
