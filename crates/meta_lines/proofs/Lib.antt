@@ -1,0 +1,11 @@
+pub mod Saying
+pub mod Listing
+pub mod Meaning
+pub mod Sorting
+pub mod Pinning
+pub mod Formed
+pub mod Keys
+pub mod Pinned
+pub mod Stopping
+pub mod Fielded
+pub mod Prefixed

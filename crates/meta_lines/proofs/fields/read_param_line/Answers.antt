@@ -1,0 +1,32 @@
+use Rattle.std.proofs.Common.{inr, refl, subst}
+use Rattle.meta_lines.specs.Fields.{field_said}
+use Rattle.meta_lines.proofs.Fielded.{no_param_left, no_param_right}
+use Rattle.meta_lines.proofs.Listing.{some_says, none_says, untrue}
+use Rattle.meta_lines.proofs.fields.read_param_line.Goals as goal
+
+pub returns-in_default-2-clause-refused : goal.returns-in_default-2-clause-refused
+returns-in_default-2-clause-refused c =
+    inr (λ before. (refl, no_param_left c.one_form.ensures.sides _ c.in-Some.left.now c.in-Some.right.now c.in-Some.ensures (none_says c.in_ok-form.field-0 _ _ c.in_default-2.is c.in_ok-form.ensures)))
+
+pub returns-in_default-3-clause-refused : goal.returns-in_default-3-clause-refused
+returns-in_default-3-clause-refused c =
+    inr (λ before. (refl, no_param_right c.one_form.ensures.sides _ c.in-Some.left.now c.in-Some.right.now c.in-Some.ensures (none_says c.in_ok-param.field-0 _ _ c.in_default-3.is c.in_ok-param.ensures)))
+
+pub returns-then-not-is_feature_name-clause-refused : goal.returns-then-not-is_feature_name-clause-refused
+returns-then-not-is_feature_name-clause-refused c =
+    let form = c.in-Some-2.form in
+    let param = c.in-Some-3.param in
+    inr (λ before. (
+      refl,
+      (
+        record { field = field_said form; param = param },
+        record {
+          left = c.in-Some.left.now;
+          right = c.in-Some.right.now;
+          sides = c.in-Some.ensures;
+          field = some_says c.in_ok-form.field-0 form _ _ c.in-Some-2.is c.in_ok-form.ensures;
+          param = some_says c.in_ok-param.field-0 param _ _ c.in-Some-3.is c.in_ok-param.ensures;
+        },
+        λ named. untrue _ c.if-not-is_feature_name.true (c.is_feature_name.ensures.1 named),
+      ),
+    ))

@@ -1,0 +1,9 @@
+pub mod Each
+pub mod Readings
+pub mod Features
+pub mod Fields
+pub mod Prefixes
+pub mod Muxes
+pub mod Only
+pub mod Inputs
+pub mod Meanings

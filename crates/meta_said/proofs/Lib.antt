@@ -1,0 +1,3 @@
+pub mod Firsting
+pub mod Stepping
+pub mod Meaning
