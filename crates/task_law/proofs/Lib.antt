@@ -1,0 +1,8 @@
+mod Base
+mod Agrees
+mod Grows
+mod Covers
+mod Bars
+mod Crowds
+mod Hopeless
+mod OneNet

@@ -1,0 +1,10 @@
+pub mod Nets
+pub mod Tasks
+pub mod Decisions
+pub mod Ends
+pub mod Realises
+pub mod Open
+pub mod Options
+pub mod Nodes
+pub mod Trees
+pub mod Tidy
