@@ -1,0 +1,4 @@
+mod Counts
+mod Listing
+mod OneRoom
+mod Tallies
