@@ -1,0 +1,4 @@
+pub mod Pushing
+pub mod Spreading
+pub mod Tables
+pub mod Classing

@@ -1,0 +1,7 @@
+//! Different numbers by their places.
+#![tactic(auto)]
+
+mod ascending;
+mod numbers;
+
+pub use numbers::Numbers;
