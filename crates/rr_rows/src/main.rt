@@ -1,27 +1,18 @@
 //! Reads routing graph files over an architecture, as stored rows give them, and tells where what a
-//! file says, or its refusal, isn't what its row wants. docs/CONTRIBUTING.md has the form of rows;
-//! here a row has these lines, and an empty line ends it:
+//! file says, or its refusal, isn't what its row wants. `stored_rows` has the form of rows; these
+//! lines are this program's own:
 //!
 //! - `arch FILE`: this architecture stands under this row and all later ones
-//! - `graph`, `graph FILE`: the text of the graph begins anew, with nothing or with this file;
-//!   without such a line it is that of the row before
-//! - `| TEXT`, `, TEXT`, `repeat N TEXT`, `byte N`: the text grows by a line, by this text, by N
-//!   such texts, or by one byte that is no text
-//! - `old TEXT`, `new TEXT`: the first place of the one is replaced by the other
-//! - `= ANSWER`: this is to be among what is told: a fact of the graph, or the refusal
-//! - `only`: and nothing else is told
-//! - `try OLD => NEW => ANSWER ..`: a row of its own, of the text with this change alone, out of
-//!   which a mark `@` is taken; a `@` in an answer becomes the place where it stood
+//! - `graph`, `graph FILE`: the text of the graph begins anew, with nothing or with this file
 #![tactic(auto)]
 
 mod facts;
-mod row;
 mod rows;
 
 use anyhow::{Context, Result, bail};
-use row::Row;
 use rows::Rows;
 use std::io::{BufRead, BufReader};
+use stored_rows::Row;
 
 fn main(rt: HostRuntime) -> Result<()> {
     let mut rows = Rows::new(rt.alloc());

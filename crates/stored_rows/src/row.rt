@@ -10,12 +10,12 @@ const ARROW: &str = " => ";
 /// What stands at a place in a changed text that an answer tells.
 const MARK: &str = "@";
 
-/// The text of a routing graph file, and what is to be told of it.
+/// A text, and what is to be told of it.
 #[derive(Drop)]
 pub struct Row {
     /// The line of the stored rows that ends it.
     pub line: u64,
-    pub graph: Vec<u8>,
+    pub text: Vec<u8>,
     pub wanted: Vec<String>,
     /// Nothing but what is wanted is to be told.
     pub only: bool,
@@ -23,19 +23,19 @@ pub struct Row {
 
 impl Row {
     /// The row of this text that a `try` says: `OLD => NEW => ANSWER ..`.
-    pub fn of_try(alloc: Global, line: u64, graph: &[u8], change: &str) -> Result<Row> {
+    pub(crate) fn of_try(alloc: Global, line: u64, text: &[u8], change: &str) -> Result<Row> {
         let mut parts = change.split(ARROW);
         let old = parts.next().unwrap_or("");
         let new = parts.next().context("a try has no =>")?;
-        let changed = replaced(alloc, str::from_utf8(graph)?, old, new)?;
+        let changed = replaced(alloc, str::from_utf8(text)?, old, new)?;
         let mut wanted = Vec::new(alloc);
-        let (graph, place) = unmarked(alloc, changed.as_str())?;
+        let (text, place) = unmarked(alloc, changed.as_str())?;
         for answer in parts {
             wanted.push(answer.replacen(alloc, MARK, place.as_str(), 1)?)?;
         }
         Ok(Row {
             line,
-            graph: Vec::from_slice(alloc, graph.as_bytes())?,
+            text: Vec::from_slice(alloc, text.as_bytes())?,
             wanted,
             only: false,
         })
@@ -59,7 +59,7 @@ impl Row {
 }
 
 /// The text with another text in the first place of `old`, which has to be there.
-pub fn replaced(alloc: Global, text: &str, old: &str, new: &str) -> Result<String> {
+pub(crate) fn replaced(alloc: Global, text: &str, old: &str, new: &str) -> Result<String> {
     if old.is_empty() || !text.contains(old) {
         bail!("the text doesn't have what is to be replaced");
     }
