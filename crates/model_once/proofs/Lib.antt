@@ -1,0 +1,5 @@
+mod Base
+mod Parts
+mod Adding
+mod Failing
+mod Lines

@@ -1,0 +1,5 @@
+mod Growing
+mod Appending
+mod Pins
+mod Changing
+mod Lines

@@ -1,0 +1,4 @@
+pub mod Items
+pub mod Fits
+pub mod Keeps
+pub mod Laws

@@ -1,0 +1,4 @@
+mod Texts
+mod Counting
+mod Wording
+mod Saying
