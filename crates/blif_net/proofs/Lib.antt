@@ -1,0 +1,2 @@
+mod Netlists
+mod OneNetlist

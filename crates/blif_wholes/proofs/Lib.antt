@@ -1,0 +1,2 @@
+mod Model
+mod Faults

@@ -1,0 +1,4 @@
+mod Making
+mod Feeding
+mod Looping
+mod Facing

@@ -1,0 +1,4 @@
+pub mod Drivers
+pub mod Loops
+pub mod Steps
+pub mod Laws
