@@ -1,0 +1,3 @@
+mod Tables
+mod Merged
+mod Bodies
