@@ -1,0 +1,10 @@
+pub mod Deciding
+pub mod Porting
+pub mod Sizing
+pub mod Holding
+pub mod Reaching
+pub mod Opening
+pub mod Tabling
+pub mod Seeing
+pub mod Lining
+pub mod Using
