@@ -1,0 +1,3 @@
+pub mod Joined
+pub mod Needs
+pub mod Valid
