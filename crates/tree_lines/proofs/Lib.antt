@@ -1,0 +1,5 @@
+pub mod EachWord
+pub mod Edges
+pub mod Said
+pub mod OneNode
+pub mod Behind

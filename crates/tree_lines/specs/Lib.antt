@@ -1,0 +1,4 @@
+pub mod Words
+pub mod Variables
+pub mod Nodes
+pub mod Laws
