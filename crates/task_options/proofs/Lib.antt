@@ -1,0 +1,4 @@
+mod Nexts
+mod Pins
+mod Counts
+mod Follow

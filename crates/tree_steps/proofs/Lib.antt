@@ -1,0 +1,2 @@
+mod Path
+mod Onward
