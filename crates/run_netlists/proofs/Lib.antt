@@ -1,0 +1,2 @@
+mod Stopped
+mod Complete
