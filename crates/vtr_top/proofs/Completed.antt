@@ -1,116 +1,47 @@
 -- What a run at valid inputs says.
-use Rattle.std.proofs.Common.{◌≡◌, ◌⊎◌, inl, inr, ℕ, zero, suc, Bool, true, false, List, [], ◌∷◌, length, take, refl, sym, ap, ◌∙◌, subst, arith, Some}
-use Rattle.std.specs.Prelude.{Result, Ok, Err, IfOk, IfErr, slice_get, if◌then◌else◌}
+use Rattle.std.proofs.Common.{◌≡◌, ◌⊎◌, inl, inr, ℕ, zero, List, [], ◌∷◌, length, map, take, sym, ap, ◌∙◌, subst, arith}
+use Rattle.std.specs.Prelude.{Result, Ok, Err, IfOk, IfErr}
 use Rattle.std.proofs.lemmas.Option.{slice_get_within}
-use Rattle.vtr_base.specs.Lists.{IsFirstPlace}
 use Rattle.run_base.specs.declared.answer.Answer.{Answer}
 use Rattle.run_base.specs.declared.status.Status.{Status}
+use Rattle.run_base.specs.declared.status.Status.TheVariants as status
 use Rattle.run_base.specs.declared.stop.Stop.{Stop}
 use Rattle.run_base.specs.declared.stop.Stop.TheVariants as stop
 use Rattle.run_base.specs.Statuses.{status_of}
 use Rattle.run_base.specs.Worlds.{World, Shown}
 use Rattle.run_base.specs.Prints.{Puts, IsSaidOf}
 use Rattle.run_words.specs.declared.shape.Shape.{Shape}
-use Rattle.run_words.specs.declared.shape.WordKind.{WordKind}
-use Rattle.run_words.specs.Words.{Parts, parts_of, role_of, is_dashes, is_dashed, option_of, CanBe, CanJoin, IsNextPlain}
-use Rattle.run_words.specs.Commands.{IsRow, IsShort, IsCommand, IsFirstWrong, IsWrongAt, IsMissingAt, CanStand}
-use Rattle.cmd_trace.specs.Trace.{AnswersTrace}
+use Rattle.run_words.specs.Words.{parts_of}
+use Rattle.run_words.specs.Commands.{IsRow, IsShort, IsCommand, IsFirstWrong, IsWrongAt, IsMissingAt}
+use Rattle.tree_verdict.specs.declared.verdict.Verdict.{Verdict}
+use Rattle.tree_verdict.specs.declared.verdict.Verdict.TheVariants.{Refutes, Partial, Wrong}
+use Rattle.run_tasks.specs.Words.{WordsSaid, words_said}
+use Rattle.cmd_refute.specs.Lines.{verdict_status}
+use Rattle.cmd_refute.specs.Refute.{AnswersRefute}
+use Rattle.cmd_refute.specs.Valid as refute
 use Rattle.vtr_top.specs.declared.table.Task.{Task}
-use Rattle.vtr_top.specs.declared.table.Task.TheVariants.{Trace}
-use Rattle.vtr_top.specs.Table.{IsTable, IsTaskOf, AreWordsOf}
-use Rattle.vtr_top.specs.Valid.{IsValidRun, IsValidTask, IsDoneOrMemory, Completes}
-use Rattle.vtr_top.proofs.Said.{three_words}
+use Rattle.vtr_top.specs.declared.table.Task.TheVariants.{Trace, Refute}
+use Rattle.vtr_top.specs.Table.{Row, IsTable, IsTaskOf, AreWordsOf, words_of}
+use Rattle.vtr_top.specs.Valid.{IsValidRun, IsValidTask, IsEndOf, EndsOrMemory, Completes}
+use Rattle.vtr_top.proofs.Rows.{one_row, stands_alike}
 
--- what is said of a trace that stops for want of memory alone
-pub done_or_memory : {E : Type 0} (w : World) (arch block prog : List ℕ) (outcome : Result Answer Stop) (r : Result Answer E) →
-    IfOk outcome (λ a. AnswersTrace w arch block prog a.status a.text.items) → IfErr outcome (λ s. s ≡ stop.Memory) → IfOk r (IsSaidOf outcome) →
-    IfOk r (λ a. IsDoneOrMemory a.status)
-done_or_memory w arch block prog (Ok a) (Ok b) answers stops is = inl (is.0 ∙ answers.0)
-done_or_memory w arch block prog (Err e) (Ok b) answers stops is = inr (is.0 ∙ ap status_of stops)
-done_or_memory w arch block prog outcome (Err e) answers stops is = tt
-
--- one of three
-pick : {X : Type 0} (x y z : X) (a b c : Bool) →
-    ((if a then x else if b then y else if c then z else x) ≡ x)
-    ⊎ (((if a then x else if b then y else if c then z else x) ≡ y) ⊎ ((if a then x else if b then y else if c then z else x) ≡ z))
-pick x y z true b c = inl refl
-pick x y z false true c = inr (inl refl)
-pick x y z false false true = inr (inr refl)
-pick x y z false false false = inl refl
-
--- a word can join two rows alike that have the same words and the same option
-joins_alike : (a b : Shape) (parts : Parts) (word : List ℕ) → a.words.now ≡ b.words.now → option_of a ≡ option_of b → CanJoin a parts word → CanJoin b parts word
-joins_alike a b parts word kinds options =
-    by_role (pick (role_of true []) (role_of false (45 ∷ 45 ∷ [])) (role_of false (45 ∷ 0 ∷ [])) parts.ended (is_dashes word) (is_dashed word))
-  where
-    as_plain : CanBe (role_of true []) a parts word → CanBe (role_of true []) b parts word
-    as_plain can = subst (λ (ks : List WordKind). IsNextPlain ks parts.plain word) kinds can
-
-    as_ends : CanBe (role_of false (45 ∷ 45 ∷ [])) a parts word → CanBe (role_of false (45 ∷ 45 ∷ [])) b parts word
-    as_ends can = tt
-
-    as_option : CanBe (role_of false (45 ∷ 0 ∷ [])) a parts word → CanBe (role_of false (45 ∷ 0 ∷ [])) b parts word
-    as_option can = record { is = sym options ∙ can.is; once = can.once }
-
-    by_role : (role_of parts.ended word ≡ role_of true []) ⊎ ((role_of parts.ended word ≡ role_of false (45 ∷ 45 ∷ [])) ⊎ (role_of parts.ended word ≡ role_of false (45 ∷ 0 ∷ []))) →
-        CanJoin a parts word → CanJoin b parts word
-    by_role (inl plain) = subst (λ r. CanBe r a parts word → CanBe r b parts word) (sym plain) as_plain
-    by_role (inr (inl ends)) = subst (λ r. CanBe r a parts word → CanBe r b parts word) (sym ends) as_ends
-    by_role (inr (inr is)) = subst (λ r. CanBe r a parts word → CanBe r b parts word) (sym is) as_option
-
--- a word can stand in the one table as in the other
-stands_alike : (t u : List Shape) (front : List (List ℕ)) (word : List ℕ) → IsTable t → IsTable u → CanStand t front word → CanStand u front word
-stands_alike [] u front word is_t is_u can = absurd is_t
-stands_alike (a ∷ b ∷ more) u front word is_t is_u can = absurd is_t
-stands_alike (a ∷ []) [] front word is_t is_u can = absurd is_u
-stands_alike (a ∷ []) (b ∷ c ∷ more) front word is_t is_u can = absurd is_u
-stands_alike (a ∷ []) (b ∷ []) [] word is_t is_u can =
-    (can.0, subst (λ (name : List ℕ). IsFirstPlace (name ∷ []) word can.0) (is_t.is_name ∙ sym is_u.is_name) can.1)
-stands_alike (a ∷ []) (b ∷ []) (name ∷ rest) word is_t is_u can = by_row can.0 can.1 can.2 can.3
-  where
-    some_alike : {X : Type 0} {x y : X} → Some x ≡ Some y → x ≡ y
-    some_alike e = cc
-
-    by_row : (row : ℕ) (shape : Shape) → IsRow (a ∷ []) name row shape → CanJoin shape (parts_of rest) word → CanStand (b ∷ []) (name ∷ rest) word
-    by_row zero shape is joins =
-        let same : shape ≡ a = sym (some_alike is.is) in (
-          0,
-          b,
-          record { first = subst (λ (n : List ℕ). IsFirstPlace (n ∷ []) name 0) (is_t.is_name ∙ sym is_u.is_name) is.first; is = refl },
-          joins_alike a b (parts_of rest) word (is_t.are_kinds ∙ sym is_u.are_kinds) (is_t.is_option ∙ sym is_u.is_option)
-              (subst (λ (s : Shape). CanJoin s (parts_of rest) word) same joins),
-        )
-    by_row (suc n) shape is joins = absurd (no_row is.is)
-      where
-        no_row : slice_get (a ∷ []) (suc n) ≡ Some shape → ⊥
-        no_row e = cc
-
--- each row of the table has three words
-row_of_three : (table : List Shape) (name : List ℕ) (row : ℕ) (shape : Shape) → IsTable table → IsRow table name row shape → length shape.words.now ≡ 3
-row_of_three [] name row shape is_table is = absurd is_table
-row_of_three (a ∷ b ∷ more) name row shape is_table is = absurd is_table
-row_of_three (a ∷ []) name row shape is_table is = by_row row is.is
-  where
-    by_row : (row : ℕ) → slice_get (a ∷ []) row ≡ Some shape → length shape.words.now ≡ 3
-    by_row zero there =
-        let same : a ≡ shape = from_some there in
-        ap (λ (s : Shape). length s.words.now) (sym same) ∙ ap length is_table.are_kinds
-      where
-        from_some : {X : Type 0} {x y : X} → Some x ≡ Some y → x ≡ y
-        from_some e = cc
-    by_row (suc n) there = cc
+-- what is said of a command that stops for want of memory alone
+pub ends_or_memory : {E : Type 0} (Answered : Status → List ℕ → Type 0) (Ends : Status → Type 0) (outcome : Result Answer Stop) (r : Result Answer E) →
+    ((s : Status) (text : List ℕ) → Answered s text → Ends s) → IfOk outcome (λ a. Answered a.status a.text.items) → IfErr outcome (λ s. s ≡ stop.Memory) →
+    IfOk r (IsSaidOf outcome) → IfOk r (λ a. Ends a.status ⊎ (a.status ≡ status.Memory))
+ends_or_memory Answered Ends (Ok a) (Ok b) ends answers stops is = inl (subst Ends (sym is.0) (ends a.status a.text.items answers))
+ends_or_memory Answered Ends (Err e) (Ok b) ends answers stops is = inr (is.0 ∙ ap status_of stops)
+ends_or_memory Answered Ends outcome (Err e) ends answers stops is = tt
 
 -- the words of a task have no word that can't stand, and lack none
 pub none_wrong : (table : List Shape) (words : List (List ℕ)) (place : ℕ) (task : Task) → IsTable table → AreWordsOf words task → IsFirstWrong table words place → ⊥
 none_wrong table words place task is_table are wrong = by_cause wrong.wrong
   where
-    long : length are.plain ≡ 3
-    long = three_words are.table words are.row are.options are.plain are.is_table are.command
-
     short : IsShort table (are.command.name ∷ are.command.rest) → ⊥
     short missing =
-        let three = row_of_three table are.command.name missing.0 missing.1 is_table missing.2 in
-        omega (arith, missing.3, three, long, ap length are.command.plain_are)
+        let alike = one_row are.table table are.command.name are.row missing.0 are.command.shape missing.1 are.is_table is_table are.command.is_row missing.2 in
+        let kinds : length are.command.shape.words.now ≡ length missing.1.words.now = ap (λ (r : Row). length r.kinds) alike.1 in
+        omega (arith, missing.3, kinds, are.command.all, ap length are.command.plain_are)
 
     by_cause : IsWrongAt table words place ⊎ IsMissingAt table words place → ⊥
     by_cause (inl at) =
@@ -118,26 +49,90 @@ none_wrong table words place task is_table are wrong = by_cause wrong.wrong
         (are.command.each place at.word (slice_get_within words place at.word at.there) at.there))
     by_cause (inr missing) = short (subst (IsShort table) are.command.are missing.short)
 
--- words are those of one task
-pub valid_here : (table : List Shape) (words : List (List ℕ)) (row : ℕ) (options plain : List (List ℕ)) (task : Task) (w : World) → IsCommand table words row options plain →
-    IsTaskOf plain task → IsValidRun words w → IsValidTask task w
-valid_here table words row options plain task w command is run = by_tasks run.task task run.are.is is run.valid
+-- tasks of the same words: what is valid for the one is for the other, and they end with the same statuses
+pub record AreAlike (known task : Task) : Type 0 where
+  pub valid : (w : World) → IsValidTask known w → IsValidTask task w
+  pub ends : (s : Status) → IsEndOf task s → IsEndOf known s
+
+-- with which statuses `refute` answers
+pub refute_ends : (w : World) (words : WordsSaid) (tree : List ℕ) (s : Status) (text : List ℕ) → AnswersRefute w words tree s text →
+    (s ≡ status.Done) ⊎ ((s ≡ status.Undecided) ⊎ (s ≡ status.Wrong))
+refute_ends w words tree s text answers = by_verdict answers.verdict answers.is
   where
-    same_rest : run.are.command.rest ≡ command.rest
-    same_rest = let both : run.are.command.name ∷ run.are.command.rest ≡ command.name ∷ command.rest = sym run.are.command.are ∙ command.are in cc
+    by_verdict : (v : Verdict) → s ≡ verdict_status v → (s ≡ status.Done) ⊎ ((s ≡ status.Undecided) ⊎ (s ≡ status.Wrong))
+    by_verdict Refutes is = inl is
+    by_verdict (Partial branches loose) is = inr (inl is)
+    by_verdict (Wrong node) is = inr (inr is)
 
-    same : run.are.plain ≡ plain
-    same = run.are.command.plain_are ∙ (ap (λ (rest : List (List ℕ)). (parts_of rest).plain) same_rest ∙ sym command.plain_are)
+alike : (row : ℕ) (plain : List (List ℕ)) (known task : Task) → IsTaskOf row plain known → IsTaskOf row plain task → AreAlike known task
+alike row plain (Trace arch block prog) (Trace arch' block' prog') was is =
+    let three : arch.now ∷ (block.now ∷ (prog.now ∷ [])) ≡ arch'.now ∷ (block'.now ∷ (prog'.now ∷ [])) = sym was.1 ∙ is.1 in
+    let first : arch.now ≡ arch'.now = cc in
+    let second : block.now ≡ block'.now = cc in
+    let third : prog.now ≡ prog'.now = cc in
+    record { valid = λ w valid. rw (sym first, sym second, sym third) valid; ends = λ s ends. ends }
+alike row plain (Refute of tree) (Refute of' tree') was is = record {
+  valid = λ w valid. subst (λ t. refute.IsValid w (words_said of') t) second (subst (λ s. refute.IsValid w s tree.now) first valid);
+  ends = λ s ends. ends;
+}
+  where
+    five : words_of (words_said of) tree.now ≡ words_of (words_said of') tree'.now
+    five = sym was.1 ∙ is.1
 
-    by_tasks : (known task : Task) → IsTaskOf run.are.plain known → IsTaskOf plain task → IsValidTask known w → IsValidTask task w
-    by_tasks (Trace arch block prog) (Trace arch' block' prog') was is valid =
-        let three : arch.now ∷ (block.now ∷ (prog.now ∷ [])) ≡ arch'.now ∷ (block'.now ∷ (prog'.now ∷ [])) = sym was ∙ (same ∙ is) in
-        let first : arch.now ≡ arch'.now = cc in
-        let second : block.now ≡ block'.now = cc in
-        let third : prog.now ≡ prog'.now = cc in
-        rw (sym first, sym second, sym third) valid
+    first : words_said of ≡ words_said of'
+    first = cc
+
+    second : tree.now ≡ tree'.now
+    second = cc
+alike row plain (Trace arch block prog) (Refute of tree) was is = absurd (no_row (sym was.0 ∙ is.0))
+  where
+    no_row : zero ≡ 1 → ⊥
+    no_row e = cc
+alike row plain (Refute of tree) (Trace arch block prog) was is = absurd (no_row (sym was.0 ∙ is.0))
+  where
+    no_row : 1 ≡ zero → ⊥
+    no_row e = cc
+
+-- words are those of one task
+one_task : (table : List Shape) (words : List (List ℕ)) (row : ℕ) (options plain : List (List ℕ)) (known task : Task) → IsTable table →
+    IsCommand table words row options plain → IsTaskOf row plain task → AreWordsOf words known → AreAlike known task
+one_task table words row options plain known task is_table command is are =
+    alike row plain known task (subst (λ r. IsTaskOf r plain known) same_row (subst (λ p. IsTaskOf are.row p known) same are.is)) is
+  where
+    same_words : are.command.name ∷ are.command.rest ≡ command.name ∷ command.rest
+    same_words = sym are.command.are ∙ command.are
+
+    same_rest : are.command.rest ≡ command.rest
+    same_rest = cc
+
+    same_name : are.command.name ≡ command.name
+    same_name = cc
+
+    same : are.plain ≡ plain
+    same = are.command.plain_are ∙ (ap (λ (rest : List (List ℕ)). (parts_of rest).plain) same_rest ∙ sym command.plain_are)
+
+    same_row : are.row ≡ row
+    same_row =
+        (one_row are.table table command.name are.row row are.command.shape command.shape are.is_table is_table
+        (subst (λ n. IsRow are.table n are.row are.command.shape) same_name are.command.is_row) command.is_row).0
+
+result_alike : {A E : Type 0} (status_in : A → Status) (known task : Task) (r : Result A E) → AreAlike known task →
+    IfOk r (λ a. EndsOrMemory task (status_in a)) → IfOk r (λ a. EndsOrMemory known (status_in a))
+result_alike status_in known task (Ok a) are (inl ends) = inl (are.ends (status_in a) ends)
+result_alike status_in known task (Ok a) are (inr memory) = inr memory
+result_alike status_in known task (Err e) are ends = tt
+
+-- what a run at valid inputs ends with, from what its task does
+pub ends_here : {A E X : Type 0} (status_in : A → Status) (f : X → List ℕ) (items read : List X) (table : List Shape) (words : List (List ℕ)) (row : ℕ)
+    (options : List (List ℕ)) (task : Task) (w : World) (r : Result A E) (run : IsValidRun words w) → read ≡ items → IsTable table →
+    IsCommand table words row options (map f items) → IsTaskOf row (map f read) task →
+    (IsValidTask task w → IfOk r (λ a. EndsOrMemory task (status_in a))) → IfOk r (λ a. EndsOrMemory run.task (status_in a))
+ends_here status_in f items read table words row options task w r run same is_table command is complete =
+    let here : IsTaskOf row (map f items) task = subst (λ l. IsTaskOf row (map f l) task) same is in
+    let are = one_task table words row options (map f items) run.task task is_table command here run.are in
+    result_alike status_in run.task task r are (complete (are.valid w run.valid))
 
 -- what the put of such a status answers
-pub put_of_done : (shown : Shown) (text : List ℕ) (s result : Status) → IsDoneOrMemory s → Puts shown text s result → Completes shown result
-put_of_done shown text s result done (inl whole) = inl (subst IsDoneOrMemory (sym whole.0) done)
-put_of_done shown text s result done (inr part) = inr (part.0, part.1)
+pub put_of_done : (task : Task) (shown : Shown) (text : List ℕ) (s result : Status) → EndsOrMemory task s → Puts shown text s result → Completes task shown result
+put_of_done task shown text s result done (inl whole) = inl (subst (EndsOrMemory task) (sym whole.0) done)
+put_of_done task shown text s result done (inr part) = inr (part.0, part.1)

@@ -1,2 +1,3 @@
-pub mod Said
-pub mod Completed
+mod Rows
+mod Said
+mod Completed

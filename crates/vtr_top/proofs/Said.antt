@@ -1,6 +1,6 @@
 -- What a run says, from what its words are, what its command does and what the sink answers.
-use Rattle.std.proofs.Common.{◌≡◌, inl, inr, ℕ, zero, suc, List, [], ◌∷◌, length, refl, sym, ap, ◌∙◌, subst, Some}
-use Rattle.std.specs.Prelude.{Result, Ok, Err, IfOk, IfErr, slice_get}
+use Rattle.std.proofs.Common.{◌≡◌, inl, inr, ℕ, List, refl, sym, subst}
+use Rattle.std.specs.Prelude.{Result, Ok, Err, IfOk, IfErr}
 use Rattle.run_base.specs.declared.status.Status.{Status}
 use Rattle.run_base.specs.declared.status.Status.TheVariants as status
 use Rattle.run_base.specs.Worlds.{World, Shown}
@@ -13,24 +13,8 @@ use Rattle.vtr_top.specs.declared.table.Task.{Task}
 use Rattle.vtr_top.specs.Table.{IsTable, IsTaskOf}
 use Rattle.vtr_top.specs.Says.{Says, SaysTask, Answers}
 
--- each command of the table has three plain words
-pub three_words : (table : List Shape) (words : List (List ℕ)) (row : ℕ) (options plain : List (List ℕ)) → IsTable table → IsCommand table words row options plain →
-    length plain ≡ 3
-three_words [] words row options plain is command = absurd is
-three_words (t ∷ []) words row options plain is command = by_row row command.is_row.is
-  where
-    by_row : (row : ℕ) → slice_get (t ∷ []) row ≡ Some command.shape → length plain ≡ 3
-    by_row zero there =
-        let same : t ≡ command.shape = from_some there in
-        command.all ∙ ap (λ (s : Shape). length s.words.now) (sym same) ∙ ap length is.are_kinds
-      where
-        from_some : {X : Type 0} {x y : X} → Some x ≡ Some y → x ≡ y
-        from_some e = cc
-    by_row (suc n) there = cc
-three_words (t ∷ u ∷ rest) words row options plain is command = absurd is
-
 pub says_task : {A E : Type 0} (status_in : A → Status) (text_in : A → List ℕ) (words : List (List ℕ)) (w : World) (task : Task) (table : List Shape) (row : ℕ)
-    (options plain : List (List ℕ)) (r : Result A E) → IsTable table → IsCommand table words row options plain → IsTaskOf plain task →
+    (options plain : List (List ℕ)) (r : Result A E) → IsTable table → IsCommand table words row options plain → IsTaskOf row plain task →
     IfOk r (λ a. SaysTask task w (status_in a) (text_in a)) → IfOk r (λ a. Says words w (status_in a) (text_in a))
 says_task status_in text_in words w task table row options plain (Ok a) is_table command is says = inl (record {
   task = task;

@@ -8,8 +8,10 @@ use Rattle.run_base.specs.Prints.{SaysOf, words_text, memory_text}
 use Rattle.run_words.specs.declared.shape.Shape.{Shape}
 use Rattle.run_words.specs.Commands.{IsFirstWrong}
 use Rattle.cmd_trace.specs.Trace.{AnswersTrace, StopsTrace}
+use Rattle.cmd_refute.specs.Refute.{AnswersRefute, StopsRefute}
+use Rattle.run_tasks.specs.Words.{words_said}
 use Rattle.vtr_top.specs.declared.table.Task.{Task}
-use Rattle.vtr_top.specs.declared.table.Task.TheVariants.{Trace}
+use Rattle.vtr_top.specs.declared.table.Task.TheVariants.{Trace, Refute}
 use Rattle.vtr_top.specs.Table.{IsTable, AreWordsOf}
 
 -- the words are no command, and the line names the first that can't stand
@@ -25,6 +27,7 @@ pub record SaysWords (words : List (List ℕ)) (s : Status) (text : List ℕ) : 
 abbrev pub SaysTask : Task → World → Status → List ℕ → Type 0
 SaysTask (Trace arch block prog) w s text =
     SaysOf (AnswersTrace w arch.now block.now prog.now) (StopsTrace w arch.now block.now prog.now) s text
+SaysTask (Refute of tree) w s text = SaysOf (AnswersRefute w (words_said of) tree.now) (StopsRefute w (words_said of) tree.now) s text
 
 -- the words are a command, and this is what it says
 pub record SaysCommand (words : List (List ℕ)) (w : World) (s : Status) (text : List ℕ) : Type 0 where

@@ -10,7 +10,7 @@ pub returns-in-Ok-clause-answers : goal.returns-in-Ok-clause-answers
 returns-in-Ok-clause-answers g c = answered_by _ _ _ _ _ _ _ c.as_slice.ensures.value c.in-Ok.ensures.says c.print.ensures.puts
 
 pub returns-in-Ok-clause-complete : goal.returns-in-Ok-clause-complete
-returns-in-Ok-clause-complete g c valid = put_of_done _ _ _ _ (c.in-Ok.ensures.complete valid) c.print.ensures.puts
+returns-in-Ok-clause-complete g c valid = put_of_done _ _ _ _ _ (c.in-Ok.ensures.complete valid) c.print.ensures.puts
 
 pub returns-in-Err-clause-complete : goal.returns-in-Err-clause-complete
-returns-in-Err-clause-complete g c valid = put_of_done _ _ _ _ (inr refl) c.print-in-Err.ensures.puts
+returns-in-Err-clause-complete g c valid = put_of_done _ _ _ _ _ (inr refl) c.print-in-Err.ensures.puts

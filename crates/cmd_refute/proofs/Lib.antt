@@ -1,0 +1,4 @@
+mod Few
+mod Atoms
+mod Judged
+mod Complete
