@@ -1,8 +1,9 @@
 -- The words behind a name, one by one.
 use Rattle.std.proofs.Common.{◌≡◌, ◌<◌, ◌≤◌, ◌+◌, ◌⊎◌, inl, inr, ℕ, zero, suc, List, [], ◌∷◌, ◌++◌, length, take, map, refl, sym, ap, ◌∙◌, subst, arith, Option, Some, None, get_or, drop, ◌-◌, add-one, length-append}
 use Rattle.std.specs.Prelude.{slice_get, string_bytes, string_len}
-use Rattle.std.proofs.Math.Seq.{take-suc}
-use Rattle.std.proofs.lemmas.List.{length-map}
+use Rattle.std.proofs.Math.Seq.{take-suc, take-append_seam}
+use Rattle.std.proofs.lemmas.List.{length-map, take-append-le}
+use Rattle.std.proofs.lemmas.Bool.{cases_lt}
 use Rattle.std.proofs.lemmas.Option.{slice_get_within, slice_get-get_or, get_or_from_slice_get}
 use Rattle.vtr_base.specs.Lists.{IsFirstPlace}
 use Rattle.run_words.specs.declared.shape.Shape.{Shape}
@@ -11,7 +12,7 @@ use Rattle.run_words.specs.declared.parts.WordRole.{WordRole}
 use Rattle.run_words.specs.declared.parts.WordRole.TheVariants as role
 use Rattle.run_words.specs.declared.error.WordsError.{WordsError}
 use Rattle.run_words.specs.declared.error.WordsError.TheVariants.{Wrong, OutOfMemory}
-use Rattle.run_words.specs.Words.{Parts, parts_of, CanJoin, CanBe, role_of, with_role, with_word}
+use Rattle.run_words.specs.Words.{Parts, parts_of, CanJoin, CanBe, IsOfKind, IsNextPlain, AreOfKinds, role_of, with_role, with_word}
 use Rattle.run_words.specs.Commands.{IsRow, CanStand, IsShort, StandBefore, IsWrongAt, IsMissingAt, IsFirstWrong, IsNoCommand, IsCommand, names_of}
 use Rattle.run_words.specs.Readings.{no_parts, RestStands, IsRest, IsRestWrong, IsRestWrongAt, IsRestShort, IsRestRefusal}
 use Rattle.run_words.proofs.First.{from_some, none_more}
@@ -22,12 +23,51 @@ pub record IsReading (shape : Shape) (rest : List (List ℕ)) (place : ℕ) (par
   pub so_far : parts ≡ parts_of (take place rest)
   pub each : RestStands shape rest place
   pub few : length parts.plain ≤ length shape.words.now
+  pub kinds : AreOfKinds shape.words.now parts.plain
+
+same_front : {X : Type 0} (xs ys : List X) (k : ℕ) → k < length xs → slice_get (xs ++ ys) k ≡ slice_get xs k
+same_front [] ys k low = absurd (omega arith)
+same_front (x ∷ xs) ys zero low = refl
+same_front (x ∷ xs) ys (suc k) low = same_front xs ys k (omega arith)
+
+at_seam : {X : Type 0} (xs ys : List X) (y : X) → slice_get (xs ++ y ∷ ys) (length xs) ≡ Some y
+at_seam [] ys y = refl
+at_seam (x ∷ xs) ys y = at_seam xs ys y
+
+no_kinds : (kinds : List WordKind) (plain : List (List ℕ)) → plain ≡ [] → AreOfKinds kinds plain
+no_kinds kinds plain none = record { each = λ place kind word is there. let inside = slice_get_within plain place word there in absurd (omega (arith, inside, ap (λ l. length l) none)) }
+
+-- one more plain word, which can come next
+more_kinds : (kinds : List WordKind) (plain : List (List ℕ)) (word : List ℕ) → AreOfKinds kinds plain → IsNextPlain kinds plain word → AreOfKinds kinds (plain ++ word ∷ [])
+more_kinds kinds plain word old next = record { each = each }
+  where
+    each : (place : ℕ) (kind : WordKind) (w : List ℕ) → slice_get kinds place ≡ Some kind → slice_get (plain ++ word ∷ []) place ≡ Some w → IsOfKind kind kinds (take place (plain ++ word ∷ [])) w
+    each place kind w is there = by_place (cases_lt place (length plain))
+      where
+        by_place : (place < length plain) ⊎ (length plain ≤ place) → IsOfKind kind kinds (take place (plain ++ word ∷ [])) w
+        by_place (inl early) =
+            subst (λ l. IsOfKind kind kinds l w) (sym (take-append-le place plain (word ∷ []) (omega arith)))
+            (old.each place kind w is (sym (same_front plain (word ∷ []) place early) ∙ there))
+        by_place (inr late) =
+            let inside = slice_get_within (plain ++ word ∷ []) place w there in
+            let last : place ≡ length plain = omega (arith, inside, length-append plain (word ∷ [])) in
+            let same_word : word ≡ w = from_some (sym (at_seam plain [] word) ∙ ap (slice_get (plain ++ word ∷ [])) (sym last) ∙ there) in
+            let same_kind : next.kind ≡ kind = from_some (sym next.is_next ∙ ap (slice_get kinds) (sym last) ∙ is) in
+            let front : take place (plain ++ word ∷ []) ≡ plain = ap (λ k. take k (plain ++ word ∷ [])) last ∙ take-append_seam plain (word ∷ []) in
+            subst (λ l. IsOfKind kind kinds l w) (sym front) (subst (λ k. IsOfKind k kinds plain w) same_kind (subst (λ x. IsOfKind next.kind kinds plain x) same_word next.fits))
+
+kinds_for : (shape : Shape) (parts : Parts) (word : List ℕ) (r : WordRole) → CanBe r shape parts word → AreOfKinds shape.words.now parts.plain →
+    AreOfKinds shape.words.now (with_role r parts word).plain
+kinds_for shape parts word role.Ends can old = old
+kinds_for shape parts word role.Option can old = old
+kinds_for shape parts word role.Plain can old = more_kinds shape.words.now parts.plain word old can
 
 pub reading_none : (shape : Shape) (rest : List (List ℕ)) (parts : Parts) → parts ≡ no_parts → IsReading shape rest 0 parts
 reading_none shape rest parts e = record {
   so_far = e;
   each = λ k word low there. absurd (omega arith);
   few = let none : length parts.plain ≡ 0 = ap (λ (p : Parts). length p.plain) e in omega arith;
+  kinds = no_kinds shape.words.now parts.plain (ap (λ (p : Parts). p.plain) e);
 }
 
 take_more : (rest : List (List ℕ)) (place : ℕ) (word : List ℕ) → slice_get rest place ≡ Some word → take (place + 1) rest ≡ take place rest ++ word ∷ []
@@ -51,6 +91,7 @@ reading_more shape rest place parts next word there is can e = record {
   so_far = e ∙ ap (λ p. with_word p word) is.so_far ∙ sym (one_more (take place rest) word) ∙ ap parts_of (sym (take_more rest place word there));
   each = none_more rest (λ k w. CanJoin shape (parts_of (take k rest)) w) place word there is.each (subst (λ p. CanJoin shape p word) is.so_far can);
   few = subst (λ (p : Parts). length p.plain ≤ length shape.words.now) (sym e) (room_for shape parts word (role_of parts.ended word) can is.few);
+  kinds = subst (λ (p : Parts). AreOfKinds shape.words.now p.plain) (sym e) (kinds_for shape parts word (role_of parts.ended word) can is.kinds);
 }
 
 take_all : {X : Type 0} (rest : List X) (place : ℕ) → length rest ≤ place → take place rest ≡ rest
@@ -68,6 +109,7 @@ reading_all shape rest place parts is past whole = record {
   each = each_to_end shape rest place is.each past;
   are = is.so_far ∙ ap parts_of (take_all rest place past);
   all = let few = is.few in omega arith;
+  kinds = is.kinds;
 }
 
 pub reading_short : (shape : Shape) (rest : List (List ℕ)) (place told : ℕ) (parts : Parts) → IsReading shape rest place parts → length rest ≤ place →

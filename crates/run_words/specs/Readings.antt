@@ -6,7 +6,7 @@ use Rattle.run_words.specs.declared.error.WordsError.TheVariants.{Wrong, OutOfMe
 use Rattle.run_words.specs.declared.shape.Shape.{Shape}
 use Rattle.run_words.specs.declared.shape.WordKind.{WordKind}
 use Rattle.run_words.specs.declared.shape.WordKind.TheVariants.{Output}
-use Rattle.run_words.specs.Words.{Parts, parts_of, CanJoin}
+use Rattle.run_words.specs.Words.{Parts, parts_of, CanJoin, AreOfKinds}
 
 abbrev pub parts_in : Reading → Parts
 parts_in r = record {
@@ -33,6 +33,7 @@ pub record IsRest (shape : Shape) (rest : List (List ℕ)) (parts : Parts) : Typ
   pub each : RestStands shape rest (length rest)
   pub are : parts ≡ parts_of rest
   pub all : length parts.plain ≡ length shape.words.now
+  pub kinds : AreOfKinds shape.words.now parts.plain
 
 -- the word at that place behind the name can't stand
 pub record IsRestWrongAt (shape : Shape) (rest : List (List ℕ)) (place : ℕ) : Type 0 where

@@ -1,6 +1,6 @@
 -- The words behind a command's name. The first `--` is dropped and makes all later words plain.
 -- Before it, a word that begins with `-` and isn't `-` alone is an option.
-use Rattle.std.specs.Prelude.{◌≡◌, ◌≤◌, ◌==◌, ◌&&◌, ◌++◌, ℕ, Bool, true, false, not, List, [], ◌∷◌, Option, Some, if◌then◌else◌, filter, length, slice_get}
+use Rattle.std.specs.Prelude.{◌≡◌, ◌≤◌, ◌==◌, ◌&&◌, ◌++◌, ℕ, Bool, true, false, not, List, [], ◌∷◌, Option, Some, if◌then◌else◌, filter, length, take, slice_get}
 use Rattle.std.specs.Option.{option_map}
 use Rattle.vtr_base.specs.Decimal.{IsNumber}
 use Rattle.run_words.specs.declared.shape.Shape.{Shape}
@@ -81,6 +81,11 @@ IsOfKind Input kinds plain word = Unit {0}
 IsOfKind Text kinds plain word = Unit {0}
 IsOfKind (Number least most) kinds plain word = IsInRange word least most
 IsOfKind Output kinds plain word = IsNewOutput kinds plain word
+
+-- each of the plain words, behind those before it, is of its kind
+pub record AreOfKinds (kinds : List WordKind) (plain : List (List ℕ)) : Type 0 where
+  pub each : (place : ℕ) (kind : WordKind) (word : List ℕ) → slice_get kinds place ≡ Some kind → slice_get plain place ≡ Some word →
+      IsOfKind kind kinds (take place plain) word
 
 -- the command has one more plain word, and it can be this one
 pub record IsNextPlain (kinds : List WordKind) (plain : List (List ℕ)) (word : List ℕ) : Type 0 where

@@ -1,6 +1,8 @@
 ghost use Rattle.std.specs.Prelude.{◌≡◌, [], ◌<◌, Some, IfOk, IfErr, MatchOption, map, string_bytes, length, slice_get, ℕ};
 ghost use Rattle.vtr_base.specs.Lists.{IsFirstPlace};
 ghost use Rattle.run_words.specs.Commands.{IsCommand, IsNoCommand, names_of};
+ghost use Rattle.run_words.specs.declared.shape.Shape.{Shape as ShapeSaid};
+ghost use Rattle.run_words.specs.Words.{AreOfKinds};
 ghost use Rattle.run_words.specs.Readings.{parts_in, IsRest, IsRestRefusal};
 
 use crate::fits::is_same;
@@ -27,6 +29,8 @@ pub fn read_words<'w>(
 ) -> Result<Command<'w>, WordsError>
     ensures read { IfOk result (λ c. IsCommand table.now (map string_bytes words.now) c.row
         (map (λ o. o.now) c.options.items) (map (λ w. w.now) c.plain.items)) }
+    ensures kinds { IfOk result (λ c. (shape : ShapeSaid) → slice_get table.now c.row ≡ Some shape
+        → AreOfKinds shape.words.now (map (λ w. w.now) c.plain.items)) }
     ensures refused { IfErr result (IsNoCommand table.now (map string_bytes words.now)) }
 {
     let [name, rest @ ..] = words else {
