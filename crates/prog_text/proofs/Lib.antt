@@ -19,3 +19,4 @@ pub mod OneReading
 pub mod OneRefusal
 pub mod PlainNames
 pub mod Descends
+pub mod OneLine

@@ -30,7 +30,7 @@ module _ (g : Graph) (law : IsExpansion g) (plain : HasPlainNames g.root) (one :
   site_there (says_table i t) choice lacks = found g law plain one i (IsLut g) choice.0 choice.1 choice.2 lacks
 
   -- a line is refused in one way
-  line_once : (line : List ℕ) (before : Choices) (n : ℕ) (e f : ProgError) → RefusesLine g line before n e → RefusesLine g line before n f → AreOneRefusal e f
+  pub line_once : (line : List ℕ) (before : Choices) (n : ℕ) (e f : ProgError) → RefusesLine g line before n e → RefusesLine g line before n f → AreOneRefusal e f
   line_once line before n OutOfMemory f a b = inr (inl refl)
   line_once line before n (BadLine x) OutOfMemory a b = inr (inr refl)
   line_once line before n (NoSuchSite x) OutOfMemory a b = inr (inr refl)

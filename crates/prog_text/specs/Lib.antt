@@ -10,3 +10,4 @@ pub mod Spelling
 pub mod Plain
 pub mod Laws
 pub mod Telling
+pub mod LineLaws

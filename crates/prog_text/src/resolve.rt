@@ -15,8 +15,9 @@ use pb_expand::{PbGraph, PbIx};
 use prog_map::{LutChoice, Setting, inputs_of, is_leaf, is_lut};
 use std::alloc::Global;
 
-/// The site and the choice that a line names. It is the line of that number.
-pub(crate) fn setting_of(
+/// The site and the choice that a line of a programming's text names. It is the line of that number
+/// in its file.
+pub fn setting_of(
     alloc: Global,
     text: &[u8],
     line: u32,
@@ -224,7 +225,7 @@ fn block_named(graph: &PbGraph, names: &GraphNames, text: &[u8]) -> Option<PbIx>
 }
 
 /// A leaf that is written so.
-fn leaf_named(graph: &PbGraph, names: &GraphNames, text: &[u8]) -> Option<PbIx>
+pub fn leaf_named(graph: &PbGraph, names: &GraphNames, text: &[u8]) -> Option<PbIx>
     requires { AreNamesOf graph.now names.now }
     ensures { MatchOption result (LacksInstance graph.now text.now (IsLeaf graph.now))
         (λ pb. NamesInstance graph.now text.now pb.0 × IsLeaf graph.now pb.0) }

@@ -1,0 +1,4 @@
+pub mod Texts
+pub mod Back
+pub mod Named
+pub mod There

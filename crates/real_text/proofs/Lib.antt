@@ -1,0 +1,5 @@
+pub mod NetNames
+pub mod Ordering
+pub mod Along
+pub mod OneReal
+pub mod AtomNames
