@@ -2,3 +2,4 @@ mod Keys
 mod Latches
 mod Naming
 mod OneReading
+mod Written

@@ -3,3 +3,4 @@ pub mod Keywords
 pub mod Nets
 pub mod Seen
 pub mod Statements
+pub mod Written

@@ -10,7 +10,7 @@ mod read;
 mod statement;
 
 pub use fault::Fault;
-pub use laws::one_reading;
+pub use laws::{keyword_lines, one_reading};
 pub use nets::is_net;
 pub use read::read_statement;
 pub use statement::Statement;

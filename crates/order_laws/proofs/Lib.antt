@@ -1,0 +1,5 @@
+mod Merging
+mod Driving
+mod Grouping
+mod Naming
+mod Keeping

@@ -1,0 +1,6 @@
+mod Inks
+mod Lines
+mod Rows
+mod Boxes
+mod ByKind
+mod Whole
