@@ -2,5 +2,7 @@
 #![tactic(auto)]
 
 mod firsts;
+mod places;
 
 pub use firsts::kept_features;
+pub use places::kept_places;

@@ -1,0 +1,4 @@
+mod Naming
+mod Holding
+mod Singling
+mod Looking

@@ -1,0 +1,4 @@
+pub mod Layouts
+pub mod Singles
+pub mod Holders
+pub mod Prefixes

@@ -1,0 +1,4 @@
+pub mod Paths
+pub mod Choices
+pub mod Fields
+pub mod Laws
