@@ -1,0 +1,3 @@
+mod Shrinks
+mod Options
+mod Rooms
