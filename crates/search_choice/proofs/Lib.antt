@@ -1,0 +1,5 @@
+mod Lively
+mod Decided
+mod Behind
+mod Nexts
+mod Firsts

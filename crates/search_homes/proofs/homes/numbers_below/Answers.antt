@@ -1,0 +1,7 @@
+-- What is collected from a range.
+use Rattle.std.proofs.Common.{refl, arith}
+use Rattle.std.proofs.lemmas.Iterator.{YieldsList-from_range, items_from_collect}
+use Rattle.search_homes.proofs.homes.numbers_below.Goals as goal
+
+pub returns : goal.returns
+returns c = items_from_collect c.collect.result c.collect.ensures.ran (YieldsList-from_range 0 c.args.limit c.args.limit refl (omega arith))

@@ -1,0 +1,2 @@
+mod Spreading
+mod Reaching
