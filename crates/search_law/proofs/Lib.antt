@@ -1,0 +1,5 @@
+pub mod Inputs
+pub mod Leaves
+pub mod Modes
+pub mod Ready
+pub mod Realising

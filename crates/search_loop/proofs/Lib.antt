@@ -1,0 +1,7 @@
+mod Written
+mod Paths
+mod Leaves
+mod Measure
+mod Apart
+mod Spent
+mod Ends
