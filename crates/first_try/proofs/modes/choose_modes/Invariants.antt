@@ -1,0 +1,5 @@
+use Rattle.first_try.specs.Paths.{IsOnPath}
+use Rattle.first_try.proofs.modes.choose_modes.Given as goal
+
+abbrev pub invariant-loop-pb : goal.invariant-loop-pb
+invariant-loop-pb l = IsOnPath l.graph l.task l.trail
